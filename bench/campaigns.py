@@ -84,7 +84,7 @@ class Folder:
     def run(self, which, runs, *words):
         """Runs a campaign anew; the processor times of the client, of its children, and of the program, in seconds."""
         used = self.path / "used"
-        words = [sys.executable, "-B", "-c", CLIENT, TOOLS, used, "--anew", "--avrora", self.program, *words]
+        words = [sys.executable, "-B", "-c", CLIENT, TOOLS, used, "--anew", "--run-code", "--avrora", self.program, *words]
         words.append(self.campaign(which, runs))
         done = subprocess.run(words, stdout=subprocess.PIPE, stderr=subprocess.STDOUT, text=True, check=False)
         if done.returncode:
@@ -104,7 +104,7 @@ def used_by(process):
 
 def local_costs(folder, which, runs, count):
     """Seconds of client and of workers with their programs, for so many runs on so many processes of this machine."""
-    client, workers, program = folder.run(which, runs, "--processes", str(count))
+    client, workers, program = folder.run(which, runs, "--jobs", str(count))
     return {"client": client, "worker": workers - program, "program": program}
 
 
@@ -166,7 +166,7 @@ def tell_costs(pools, folder, which, runs):
 def tell_beginning(folder):
     """How long a million take to begin, and the client's memory then and some results later."""
     path = folder.campaign("radio", MILLION)
-    words = [sys.executable, "-B", TOOLS, "campaign", "--avrora", folder.program, "--processes", str(WORKERS), path]
+    words = [sys.executable, "-B", TOOLS, "campaign", "--avrora", folder.program, "--jobs", str(WORKERS), path]
     start = time.monotonic()
     client = subprocess.Popen(words, stdout=subprocess.DEVNULL, stderr=subprocess.DEVNULL)
     said = False

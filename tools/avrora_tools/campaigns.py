@@ -4,8 +4,10 @@ The format stands in CAMPAIGNS.md.
 """
 import bisect
 import dataclasses
+import functools
 import hashlib
 import itertools
+import math
 import os
 import re
 from collections.abc import Iterator, Sequence
@@ -14,13 +16,18 @@ from typing import Any
 from avrora_tools import campaign_keys, cases, runs
 from avrora_tools.campaign_keys import Table
 from avrora_tools.cases import Case
+from avrora_tools.draws import Code, DrawnGroup
 from avrora_tools.errors import BadInput
-from avrora_tools.files import printable, read_text
-from avrora_tools.variants import Axis, DrawnGroup, Group, NetworkGroup, Run, ScenarioGroup, content_name, parsed
+from avrora_tools.files import printable, read_named, read_named_text, read_text
+from avrora_tools.variants import Axis, Group, NetworkGroup, Run, ScenarioGroup, content_name, parsed, shown
 
-MAX_RUNS = 10_000_000
+MAX_RUNS = 1_000_000_000
+MOST_COMPARED = 100_000  # names of runs that are compared one by one
 NODE_WINDOW = 20_000  # cycles, of `avrora node`
 LONGEST_NAME = 120  # bytes of the name of a run in the names of files
+
+# Bytes of a file that workers get: of images, and of golden traces.
+LARGEST_IMAGE, LARGEST_GOLDEN = 16 * 1024 * 1024, 256 * 1024 * 1024
 
 
 @dataclasses.dataclass(frozen=True)
@@ -65,10 +72,34 @@ class Campaign:
         """All runs of a part of the campaign, each made as it comes."""
         return map(self.run, shard.numbers(self.count))
 
-    def signature(self, shard: Shard) -> str:
+    def called(self, name: str) -> Run | None:
+        """The run of this name."""
+        first = 0
+        for group in self.groups:
+            index = group.index_of(name)
+            if index is not None:
+                return group.run(index, first + index)
+            first += group.count
+        return None
+
+    @functools.cached_property
+    def signature(self) -> str:
         """What tells the runs of this campaign, and what they are checked by, from others."""
-        parts = [str(shard), *(f"{group.signature()}\n{self.checks[group.check]}" for group in self.groups)]
+        parts = [f"{group.signature()}\n{self.checks[group.check]}" for group in self.groups]
         return hashlib.sha256("\0".join(parts).encode("utf-8", "surrogateescape")).hexdigest()
+
+    @property
+    def drawn(self) -> list[DrawnGroup]:
+        """The groups that code of the user draws."""
+        return [group for group in self.groups if isinstance(group, DrawnGroup)]
+
+    def demand_code(self, allowed: bool) -> None:
+        """Loads the code that the file names, where the user allows it. Raises BadInput where not."""
+        for group in self.drawn:
+            if not allowed:
+                path = printable(group.code.path)
+                raise BadInput(f"{printable(group.place)}: `draw` names code, {path}, which runs only with --run-code")
+            group.prepare()
 
 
 class Digests:
@@ -116,22 +147,55 @@ def read(path: str) -> Campaign:
 def no_name_twice(path: str, groups: Sequence[Group]) -> None:
     """Raises BadInput where two runs have the same name. Those of groups whose names differ differ anyhow, unless one
     name goes on where the other one ends."""
-    alike = [
-        group
-        for group in groups
-        if any(
-            f"{group.name} ".startswith(f"{other.name} ") or f"{other.name} ".startswith(f"{group.name} ")
-            for other in groups
-            if other is not group
-        )
-    ]
-    found: set[str] = set()
-    for group in alike:
-        for index in range(group.count):
-            name = group.run(index, index).name
-            if name in found:
+    for one, other in itertools.combinations(groups, 2):
+        names = f"{one.name} ", f"{other.name} "
+        if names[0].startswith(names[1]) or names[1].startswith(names[0]):
+            name = common_name(one, other)
+            if name is not None:
                 raise BadInput(f"{path}: two runs have the name {printable(name)}")
-            found.add(name)
+
+
+def common_name(one: Group, other: Group) -> str | None:
+    """A name that a run of each of two groups has. Where they have the same keys these decide, and not the runs."""
+    if one.name == other.name and [axis.key for axis in one.axes] == [axis.key for axis in other.axes]:
+        parts = [one.name]
+        for mine, theirs in zip(one.axes, other.axes):
+            value = common_value(mine, theirs)
+            if value is None:
+                return None
+            parts.append(f"{mine.key}={value}")
+        return " ".join(parts)
+    few, many = sorted((one, other), key=lambda group: group.count)
+    if few.count > MOST_COMPARED:
+        raise BadInput(f"{other.place}: its runs may have the names of others: give each [[run]] a name of its own")
+    names = (few.run(index, index).name for index in range(few.count))
+    return next((name for name in names if many.index_of(name) is not None), None)
+
+
+def common_value(one: Axis, other: Axis) -> str | None:
+    """A value of both, as the names of runs have it."""
+    few, many = sorted((one.values, other.values), key=len)
+    if isinstance(few, range) and isinstance(many, range):
+        number = common_number(few, many)
+        return None if number is None else str(number)
+    if isinstance(many, range):
+        return next((shown(value) for value in few if type(value) is int and value in many), None)
+    texts = {shown(value) for value in many}
+    return next((text for text in map(shown, few) if text in texts), None)
+
+
+def common_number(one: range, other: range) -> int | None:
+    """The least number of two ranges that rise."""
+    divisor = math.gcd(one.step, other.step)
+    apart = other[0] - one[0]
+    if apart % divisor:
+        return None
+    rest = other.step // divisor
+    steps = apart // divisor * pow(one.step // divisor, -1, rest) % rest
+    found, period = one[0] + one.step * steps, one.step * rest
+    low = max(one[0], other[0])
+    found += -(-(low - found) // period) * period
+    return found if found <= min(one[-1], other[-1]) else None
 
 
 class Files:
@@ -141,15 +205,13 @@ class Files:
         self.contents: dict[str, bytes] = {}
         self.names: dict[str, str] = {}
 
-    def add(self, place: str, path: str) -> str:
+    def add(self, place: str, path: str, most: int = LARGEST_IMAGE) -> str:
         """The name in the shipment of the file `path`."""
         if path not in self.names:
             try:
-                with open(path, "rb") as file:
-                    content = file.read()
-            except (OSError, ValueError) as fault:
-                why = getattr(fault, "strerror", None) or fault
-                raise BadInput(f"{place}: cannot read {printable(path)}: {why}") from None
+                content = read_named(path, most)
+            except BadInput as fault:
+                raise BadInput(f"{place}: {fault}") from None
             name = content_name(content, path)
             self.contents[name] = content
             self.names[path] = name
@@ -184,11 +246,14 @@ def groups_of(place: str, table: Table, folder: str, files: Files, checks: list[
         yield NetworkGroup(place, name or "network", axes, check(shipped), table["network"], folder, ship)
     elif "draw" in table:
         path = os.path.join(folder, table["draw"])
-        yield DrawnGroup(place, name or stem(path), axes, check(shipped), path)
+        yield DrawnGroup(place, name or stem(path), axes, check(shipped), Code(place, path, folder))
     elif "scenario" in table:
         path = os.path.join(folder, table["scenario"])
-        scenario = parsed(read_text(path), path)
-        yield ScenarioGroup(place, name or stem(path), axes, check(shipped), scenario, os.path.dirname(path), ship)
+        scenario = parsed(read_named_text(path), path)
+        group = ScenarioGroup(place, name or stem(path), axes, check(shipped), scenario, os.path.dirname(path), ship)
+        if ways:  # each is made and compared by itself
+            group.moved = None
+        yield group
     elif not read:
         raise BadInput(f"{place}: a run has a scenario, a network, draw, or cases whose sources are run")
     else:
@@ -210,7 +275,7 @@ def source_of(place: str, case: Case) -> Table:
     """The scenario that a case has as its source; `node IMAGE CYCLES` is a network of one node."""
     if case.source and case.source[0] == "run":
         path = os.path.join(case.folder, case.source[1])
-        return parsed(read_text(path), path)
+        return parsed(read_named_text(path), path)
     if case.source and case.source[0] == "node" and case.source[2].isdigit():
         cycles = int(case.source[2])
         window = [0, min(cycles, NODE_WINDOW)]
@@ -259,7 +324,7 @@ def case_of(place: str, path: str, folder: str, files: Files) -> CampaignCase:
     full = os.path.join(folder, path)
     case = cases.read_case(full)
     goldens = [
-        runs.ShippedFile(files.add(place, statement.path), os.path.relpath(statement.path, folder))
+        runs.ShippedFile(files.add(place, statement.path, LARGEST_GOLDEN), os.path.relpath(statement.path, folder))
         for statement in case.statements
         if isinstance(statement, cases.Golden)
     ]

@@ -15,6 +15,8 @@ import avrora_tools
 from avrora_tools import local_worker
 from avrora_tools.runs import Shipment
 
+ARRIVAL_SECONDS = 120  # that the shipment may take to a worker
+
 
 def package() -> bytes:
     """This package as a zip from which Python imports it."""
@@ -40,6 +42,7 @@ def for_dask(name: str, shipment: Shipment) -> tuple[Any, Any, Any]:
     from distributed import WorkerPlugin, get_worker
 
     tools, start, packed_shipment = package(), local_worker.START, pickle.dumps(shipment)
+    tick, silent_seconds, arrival_seconds = local_worker.TICK, local_worker.SILENT_SECONDS, ARRIVAL_SECONDS
 
     class Carrier(WorkerPlugin):  # type: ignore[misc]  # a local class, which is always pickled by value
         """Has a process work in a folder where the worker has its files. Nothing is written before the worker proves itself,
@@ -102,11 +105,16 @@ def for_dask(name: str, shipment: Shipment) -> tuple[Any, Any, Any]:
             self.connection.send(self.folder)
 
         def received(self) -> Any:
-            """What the process sends next."""
+            """What the process sends next; it sends from time to time that it is there."""
             try:
-                return self.connection.recv()
+                while self.connection.poll(silent_seconds):
+                    message = self.connection.recv()
+                    if message != tick:
+                        return message
             except (EOFError, OSError):
                 raise RuntimeError(f"its process ended with status {self.end()}") from None
+            self.end()
+            raise RuntimeError(f"its process gave no sign for {silent_seconds:.0f} s")
 
         def prove(self) -> list[Any]:
             import socket
@@ -129,4 +137,45 @@ def for_dask(name: str, shipment: Shipment) -> tuple[Any, Any, Any]:
                     pass  # it has ended, which is seen when its answers are waited for
                 return self.received()
 
-    return Carrier(), lambda: get_worker().plugins[name].prove(), lambda jobs: get_worker().plugins[name].run_batch(jobs)
+    def prove() -> Any:
+        """Once the plugin is there, which the scheduler sends to each worker by itself."""
+        import time
+
+        end = time.monotonic() + arrival_seconds
+        while name not in get_worker().plugins and time.monotonic() < end:
+            time.sleep(0.05)
+        return get_worker().plugins[name].prove()
+
+    return Carrier(), prove, lambda jobs: get_worker().plugins[name].run_batch(jobs)
+
+
+def on_scheduler() -> tuple[Any, Any]:
+    """Two functions to call on the scheduler, which has nothing of this package: one gives a plugin to all workers, those that
+    come later too, one takes the plugins away whose names begin alike. Neither waits for a worker: dask's own ways end where
+    a single one does not answer."""
+
+    def tell(dask_scheduler: Any, **message: Any) -> None:
+        import asyncio
+
+        async def tell_one(address: str) -> None:
+            try:
+                await dask_scheduler.broadcast(msg=message, workers=[address])
+            except Exception:  # whatever keeps a worker from hearing: it will not prove itself
+                pass
+
+        tasks = dask_scheduler.__dict__.setdefault("avrora_tasks", set())
+        for address in list(dask_scheduler.workers):
+            task = asyncio.ensure_future(tell_one(address))
+            tasks.add(task)
+            task.add_done_callback(tasks.discard)
+
+    async def give(name: str, plugin: bytes, dask_scheduler: Any) -> None:
+        dask_scheduler.worker_plugins[name] = plugin
+        tell(dask_scheduler, op="plugin-add", plugin=plugin, name=name)
+
+    async def take_away(prefix: str, dask_scheduler: Any) -> None:
+        for name in [name for name in dask_scheduler.worker_plugins if name.startswith(prefix)]:
+            del dask_scheduler.worker_plugins[name]
+            tell(dask_scheduler, op="plugin-remove", name=name)
+
+    return give, take_away

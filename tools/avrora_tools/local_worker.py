@@ -5,6 +5,7 @@ import queue
 import signal
 import sys
 import threading
+import time
 from multiprocessing.connection import Connection
 from typing import Any
 
@@ -12,6 +13,11 @@ from avrora_tools import runs
 
 # What starts a worker: it finds this package where the process that starts it does.
 START = "import sys; sys.path[:] = {path!r}; from avrora_tools.local_worker import main; main()"
+
+# What a worker sends from time to time, so that one that stands still is told from one that works.
+TICK = "tick"
+SECONDS_A_TICK = 5.0
+SILENT_SECONDS = 60.0  # without any word: the process stands still
 
 
 def words(connection: int) -> list[str]:
@@ -24,6 +30,14 @@ def main() -> None:
     os.set_inheritable(int(sys.argv[1]), False)  # it is not the simulator's
     connection: Connection = Connection(int(sys.argv[1]))
     inbox: queue.SimpleQueue[Any] = queue.SimpleQueue()
+    lock = threading.Lock()
+
+    def send(message: Any) -> None:
+        try:
+            with lock:
+                connection.send(message)
+        except OSError:  # nobody is there who listens
+            os.killpg(0, signal.SIGKILL)
 
     def listen() -> None:
         """Takes what comes at once, so that nobody waits for this worker; and ends it, and the simulator that it runs,
@@ -34,9 +48,15 @@ def main() -> None:
         except (EOFError, OSError):
             os.killpg(0, signal.SIGKILL)
 
+    def tick() -> None:
+        while True:
+            time.sleep(SECONDS_A_TICK)
+            send(TICK)
+
     threading.Thread(target=listen, daemon=True).start()
+    threading.Thread(target=tick, daemon=True).start()
     shipment, folder = inbox.get(), inbox.get()
     bench = runs.Bench(shipment, folder)
-    connection.send(bench.prove())
+    send(bench.prove())
     while True:
-        connection.send(bench.run_batch(inbox.get()))
+        send(bench.run_batch(inbox.get()))

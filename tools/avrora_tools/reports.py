@@ -188,7 +188,7 @@ class Report:
         with files.whole_file(path, binary=True) as file, pyarrow.parquet.ParquetWriter(file, schema) as writer:
             for group in grouped(self.rows(), ROWS_A_GROUP):
                 for row in group:
-                    for column in ("parameters", "compared"):
+                    for column in ("parameters", "compared", "tried"):
                         row[column] = json.dumps(row[column])
                 writer.write_table(pyarrow.Table.from_pylist(group, schema=schema))
 

@@ -1,287 +1,404 @@
 """The results of a campaign: one SQLite file with a row for each run, and beside it the scenarios of runs that are not
 passed, and the traces that are kept."""
+import collections
 import contextlib
 import errno
 import fcntl
 import json
 import os
-import shutil
 import socket
 import sqlite3
 import time
-from collections.abc import Iterable, Iterator, Mapping
-from typing import Any
+from collections.abc import Callable, Iterable, Iterator, Mapping, Sequence
+from typing import Any, NamedTuple, TypeVar
 
-from avrora_tools import files, runs
+from avrora_tools import files, runs, stored, terminal, writing
 from avrora_tools.campaigns import file_name
 from avrora_tools.errors import BadInput, CannotWork
+from avrora_tools.stored import COLUMNS, FILE, NAMES, OF_RECORD, RECORDS, Trust, reading, reported, rows
 from avrora_tools.variants import Run
+from avrora_tools.writing import Folder
 
-FILE = "results.sqlite"
-
-# The form of the file: SQLite's application_id says whose it is, its user_version which form.
-APPLICATION, FORM = 0x41565243, 2
-
-# A sitting is one call of the campaign: `identity` is a hash of all that decides the outcomes of all runs, `program` and
-# `checker` are those of the simulator and of the code that checks. A run belongs to the sitting by which it has its
-# result, or in which that was found to be the same. Digests and hashes are 32 bytes each, and text in the view.
-SCHEMA = f"""
-CREATE TABLE about (key TEXT PRIMARY KEY, value TEXT NOT NULL) WITHOUT ROWID;
-CREATE TABLE sitting (
-    id INTEGER PRIMARY KEY, identity TEXT NOT NULL, program TEXT NOT NULL, checker TEXT NOT NULL, host TEXT NOT NULL,
-    began TEXT NOT NULL
-);
-CREATE TABLE host (id INTEGER PRIMARY KEY, name TEXT NOT NULL UNIQUE);
-CREATE TABLE run (
-    id INTEGER PRIMARY KEY, number INTEGER NOT NULL, name TEXT NOT NULL UNIQUE, parameters TEXT NOT NULL,
-    digest BLOB NOT NULL, outcome TEXT NOT NULL, message TEXT NOT NULL,
-    {' '.join(f'{name} INTEGER,' for name in runs.COUNTS)}
-    hash BLOB, compared TEXT, trace TEXT, seconds REAL NOT NULL, processor REAL NOT NULL, host INTEGER NOT NULL REFERENCES host,
-    attempts INTEGER NOT NULL,
-    sitting INTEGER NOT NULL REFERENCES sitting
-);
-CREATE VIEW result AS
-    SELECT number, run.name AS name, parameters, outcome, message, {', '.join(runs.COUNTS)},
-        CASE WHEN hash IS NOT NULL THEN lower(hex(hash)) END AS hash, compared, trace, seconds, processor, host.name AS host,
-        attempts, lower(hex(digest)) AS digest, program, checker
-    FROM run JOIN sitting ON sitting.id = run.sitting JOIN host ON host.id = run.host;
-PRAGMA application_id = {APPLICATION};
-PRAGMA user_version = {FORM};
-"""
-
-INSERT = f"""INSERT INTO run (number, name, parameters, digest, outcome, message, {', '.join(runs.COUNTS)}, hash,
-    compared, trace, seconds, processor, host, attempts, sitting) VALUES ({', '.join('?' * (14 + len(runs.COUNTS)))})"""
-
-# How long a reader may have the file for itself, in seconds.
-PATIENCE = 600.0
+__all__ = ["COLUMNS", "FILE", "Store", "Trust", "locked", "opened_folder", "reading", "reported", "rows", "write_images"]
 
 COMMIT_SECONDS = 1.0  # between two transactions
+MOST_WAITING = 20_000  # results that wait for a file that another program has
+ROWS_A_TRANSACTION = 5_000
 
 # For which outcomes a trace is kept, by the setting `traces`.
 TRACED = {"none": (), "failed": (runs.FAILED, runs.BROKEN), "all": runs.OUTCOMES}
 
+INSERT = f"INSERT OR REPLACE INTO {{table}} VALUES ({', '.join('?' * (len(NAMES) + 2))})"
+OUTCOME, TRACE, DIGEST = NAMES.index("outcome"), NAMES.index("trace"), NAMES.index("digest")
+
+T = TypeVar("T")
+
+compact = json.JSONEncoder(default=str, separators=(",", ":")).encode
+
+
+class Names(NamedTuple):
+    """Of a row: its hosts, and what its sitting went by."""
+
+    host: str
+    second: str | None
+    identity: str
+    program: str
+    checker: str
+
+
+class Moved(NamedTuple):
+    """What a changed campaign means to the results that are there."""
+
+    aside: int  # of runs that are no more in it
+    back: int  # that were aside and are in it again
+
 
 @contextlib.contextmanager
-def locked(folder: str) -> Iterator[None]:
+def locked(folder: Folder) -> Iterator[None]:
     """One campaign at a time works in a folder."""
-    with open(f"{folder}/.lock", "w", encoding="utf-8") as lock:
+    lock = folder.lock_file(".lock")
+    try:
         try:
             # A lock of this process alone: no child has it, so it ends with this process, however that ends.
             fcntl.lockf(lock, fcntl.LOCK_EX | fcntl.LOCK_NB)
         except OSError as fault:
             if fault.errno not in (errno.EACCES, errno.EAGAIN):
                 raise
-            raise CannotWork(f"another campaign is at work in {folder}") from None
+            raise CannotWork(f"another campaign is at work in {files.shown(folder.path)}") from None
         yield
+    finally:
+        os.close(lock)
 
 
-@contextlib.contextmanager
-def reported(path: str) -> Iterator[None]:
-    """What SQLite raises in the block becomes a line for the user."""
-    try:
-        yield
-    except sqlite3.OperationalError as fault:
-        raise CannotWork(f"{files.shown(path)}: {fault}") from None
-    except sqlite3.DatabaseError as fault:
-        raise BadInput(f"{files.shown(path)}: no results of a campaign, or damaged ({fault})") from None
-
-
-def is_of_campaign(database: sqlite3.Connection) -> bool:
-    (application,) = database.execute("PRAGMA application_id").fetchone()
-    (form,) = database.execute("PRAGMA user_version").fetchone()
-    return (application, form) == (APPLICATION, FORM)
+def opened_folder(place: "str | tuple[str, str]", make: bool = False) -> Folder:
+    """The folder of results: one that the user named; or of a campaign, by its folder and a name from its file, which leads
+    nowhere else."""
+    if isinstance(place, str):
+        return Folder.named(place, make)
+    top, name = place
+    with Folder(os.open(top or ".", writing.ENTERED), top) as above:
+        return above.below(name, make)
 
 
 class Store:
-    """The folder of results, for the campaign that works in it."""
+    """The folder of results, for the campaign that works in it. Results are kept back, and written in transactions, so that a
+    program which has the file for itself holds nothing up."""
 
-    def __init__(self, folder: str, anew: bool) -> None:
-        self.folder, self.runs, self.path = folder, f"{folder}/runs", f"{folder}/{FILE}"
-        os.makedirs(self.runs, exist_ok=True)
-        if anew:
-            for path in (self.path, f"{self.path}-journal"):
-                with contextlib.suppress(FileNotFoundError):
-                    os.unlink(path)
+    def __init__(
+        self, folder: Folder, anew: bool = False, adopts: bool = False, say: Callable[[str], None] = terminal.say
+    ) -> None:
+        self.folder, self.path, self.say = folder, folder.path_of(FILE), say
+        self.trust = Trust(adopts)
+        self.waiting: dict[int, tuple[Any, ...]] = {}  # rows by their numbers, with their sums
         self.next_commit = 0.0
+        self.locked_since: float | None = None
         self.sitting = 0
-        self.hosts: dict[str, int] = {}
-        with reported(self.path):
-            self.database = sqlite3.connect(self.path, timeout=PATIENCE)
-            try:
-                if not self.database.execute("SELECT count(*) FROM sqlite_master").fetchone()[0]:
-                    self.database.executescript(f"BEGIN; {SCHEMA} COMMIT;")
-                if not is_of_campaign(self.database):
-                    raise BadInput(f"{self.path}: no results of a campaign, or of another version; --anew replaces them")
-            except BaseException:
-                self.database.close()
-                raise
+        self.went_by = ("", "", "")
+        self.sittings: dict[tuple[str, str, str], int] = {}  # that were taken over from other files
+        self.hosts: dict[str, int] = {}  # the keys of their names
+        self.new_hosts: dict[str, int] = {}
+        self.runs = folder.entered("runs", make=True)
+        try:
+            with reported(self.path):
+                self.open(anew)
+        except BaseException:
+            self.runs.close()
+            raise
+        self.files = set(self.runs.names())
 
-    def begin(self, name: str, total: int, identity: str, program: str, checker: str) -> None:
-        """Notes what is run from now on, and by what."""
-        about = {"name": files.printable(name), "total": str(total)}
-        self.database.executemany("INSERT OR REPLACE INTO about VALUES (?, ?)", about.items())
-        began = time.strftime("%Y-%m-%dT%H:%M:%SZ", time.gmtime())
-        words = (identity, program, checker, socket.gethostname(), began)
-        cursor = self.database.execute(
-            "INSERT INTO sitting (identity, program, checker, host, began) VALUES (?, ?, ?, ?, ?)", words
-        )
-        self.sitting = cursor.lastrowid or 0
-        self.database.commit()
+    def open(self, anew: bool) -> None:
+        if anew:
+            for ending in ("", "-journal", "-wal", "-shm"):
+                self.folder.remove(FILE + ending)
+        is_there = stored.vet(self.folder, FILE)
+        uri = self.folder.path_within(FILE)
+        self.database = sqlite3.connect(uri, timeout=stored.DEAF_SECONDS, isolation_level=None)
+        try:
+            stored.settings(self.database)
+            if not is_there or not self.patiently(lambda: stored.objects(self.database)):
+                self.patiently(lambda: self.database.executescript(f"BEGIN IMMEDIATE; {stored.SCHEMA} COMMIT;"))
+            if not self.patiently(lambda: stored.is_of_campaign(self.database)):
+                raise BadInput(
+                    f"{files.shown(self.path)}: no results of a campaign, or of another version; --anew replaces them"
+                )
+            self.is_empty = self.database.execute("SELECT 1 FROM run LIMIT 1").fetchone() is None
+            self.said = stored.about_of(self.database, Trust(self.trust.adopts)) if not self.is_empty else {}
+        except BaseException:
+            self.database.close()
+            raise
 
-    def arrange(self, signature: str, wanted: Iterable[Run]) -> None:
-        """Drops the results of runs that are no more in the campaign, and numbers the others as they stand there now.
-        The signature is that of the runs: where it is that of before all stand as they stood."""
-        if self.about("signature") == signature:
-            return
-        left = dict(self.database.execute("SELECT name, id FROM run"))
-        if left:
-            for run in wanted:
-                known = left.pop(run.name, None)
-                if known is not None:
-                    self.database.execute("UPDATE run SET number = ? WHERE id = ?", (run.number, known))
-        for name, known in left.items():
-            self.database.execute("DELETE FROM run WHERE id = ?", (known,))
-            self.remove_files(name)
-        self.database.execute("INSERT OR REPLACE INTO about VALUES ('signature', ?)", (signature,))
-        self.database.commit()
+    # ---- the file
+
+    def patiently(self, work: Callable[[], T]) -> T:
+        return stored.patiently(work, self.path, self.say)
+
+    def transaction(self, work: Callable[[], T]) -> T:
+        """Does all of some work, or raises and does nothing."""
+        self.database.execute("BEGIN IMMEDIATE")
+        try:
+            found = work()
+            self.database.execute("COMMIT")
+            return found
+        finally:
+            if self.database.in_transaction:
+                self.database.execute("ROLLBACK")
 
     def about(self, key: str) -> str | None:
-        found = self.database.execute("SELECT value FROM about WHERE key = ?", (key,)).fetchone()
-        return found and str(found[0])
+        return self.said.get(key)
 
-    def numbers_kept(self, identity: str, traces: str) -> Iterator[int]:
-        """The numbers of the runs that have a final result of this very identity, and a trace where one is to be kept."""
-        traced = ", ".join(f"'{outcome}'" for outcome in TRACED[traces])
-        final = ", ".join(f"'{outcome}'" for outcome in runs.FINAL)
-        return (
-            number
-            for (number,) in self.database.execute(
-                f"""SELECT number FROM run JOIN sitting ON sitting.id = run.sitting WHERE identity = ?
-                    AND outcome IN ({final}) AND (trace IS NOT NULL OR outcome NOT IN ({traced}))""",
-                (identity,),
-            )
+    def note(self, **about: str) -> None:
+        """Has the file say something of itself."""
+        self.said.update(about)
+        said = stored.sealed_about(self.said)
+
+        def write() -> None:
+            self.database.execute("DELETE FROM about")
+            self.database.executemany("INSERT INTO about VALUES (?, ?)", said.items())
+
+        self.patiently(lambda: self.transaction(write))
+
+    def begin(self, about: Mapping[str, str], identity: str, program: str, checker: str) -> None:
+        """Notes what is run from now on, and by what."""
+        self.went_by = (identity, program, checker)
+        self.sitting = self.patiently(
+            lambda: self.transaction(lambda: self.begun(self.went_by, socket.gethostname()))
         )
-
-    def keeps(self, run: Run, digest: str, traces: str) -> bool:
-        """Whether the run has a final result by this digest, and a trace where one is to be kept. The result belongs to
-        this sitting then."""
-        found = self.database.execute(
-            "SELECT id, digest, outcome, trace FROM run WHERE name = ?", (run.name,)
-        ).fetchone()
-        if not found or found[1] != bytes.fromhex(digest) or found[2] not in runs.FINAL:
-            return False
-        if found[2] in TRACED[traces] and found[3] is None:
-            return False
-        self.database.execute("UPDATE run SET sitting = ? WHERE id = ?", (self.sitting, found[0]))
-        return True
-
-    def save(self, run: Run, digest: str, answer: runs.Answer, host: str, attempts: int) -> None:
-        """Keeps what came of a run instead of what came of it before."""
-        self.remove_files(run.name)
-        trace = None
-        if answer["trace"]:
-            trace = f"runs/{file_name(run.name)}.trace.gz"
-            files.write_whole(f"{self.folder}/{trace}", answer["trace"], lasting=False)
-        if answer["outcome"] != runs.PASSED:
-            with contextlib.suppress(BadInput):  # what is no scenario
-                files.write_whole(self.scenario_path(run), run.scenario(), lasting=False)
-                if images := run.images():
-                    write_images(self.images_path(run.name), images)
-        counts = answer["counts"] or [None] * len(runs.COUNTS)
-        self.database.execute("DELETE FROM run WHERE name = ?", (run.name,))
-        self.database.execute(
-            INSERT,
-            (
-                run.number,
-                run.name,
-                compact(run.parameters),
-                bytes.fromhex(digest),
-                answer["outcome"],
-                answer["message"],
-                *counts,
-                bytes.fromhex(answer["hash"]) if answer["hash"] else None,
-                compact(answer["compared"]) if answer["compared"] else None,
-                trace,
-                answer["seconds"],
-                answer["processor"],
-                self.host(host),
-                attempts,
-                self.sitting,
-            ),
-        )
+        self.note(**about)
 
     def host(self, name: str) -> int:
-        """The key of a host, which is noted where it is new."""
-        if name not in self.hosts:
-            self.database.execute("INSERT OR IGNORE INTO host (name) VALUES (?)", (name,))
-            self.hosts[name] = self.database.execute("SELECT id FROM host WHERE name = ?", (name,)).fetchone()[0]
-        return self.hosts[name]
-
-    def scenario_path(self, run: Run) -> str:
-        return f"{self.runs}/{file_name(run.name)}.toml"
-
-    def images_path(self, name: str) -> str:
-        """The folder of the images that a run alone has."""
-        return f"{self.runs}/{file_name(name)}.images"
-
-    def remove_files(self, name: str) -> None:
-        stem = f"{self.runs}/{file_name(name)}"
-        for path in (f"{stem}.toml", f"{stem}.trace.gz"):
-            if os.path.lexists(path):
-                os.unlink(path)
-        if os.path.lexists(f"{stem}.images"):
-            shutil.rmtree(f"{stem}.images", ignore_errors=True)
+        """The key of a host. One that is new is written with the results that wait."""
+        key = self.hosts.get(name)
+        if key is None:
+            if not self.hosts:
+                self.hosts = {str(known): int(id_) for known, id_ in self.database.execute("SELECT name, id FROM host")}
+            key = self.hosts.setdefault(name, max(self.hosts.values(), default=0) + 1)
+            self.new_hosts[name] = key
+        return key
 
     def commit(self, if_due: bool = False) -> None:
-        """Ends a transaction: what it has is kept, whatever happens from then on."""
+        """Writes what waits. Where that is only due it may wait on, for a file that another program has."""
         now = time.monotonic()
-        if not if_due or now >= self.next_commit:
-            self.database.commit()
-            self.next_commit = time.monotonic() + COMMIT_SECONDS
+        if not self.waiting or if_due and now < self.next_commit and len(self.waiting) < ROWS_A_TRANSACTION:
+            return
+        try:
+            if if_due and len(self.waiting) < MOST_WAITING:
+                self.transaction(self.write_waiting)
+            else:
+                self.patiently(lambda: self.transaction(self.write_waiting))
+        except sqlite3.OperationalError as fault:
+            if not if_due or not stored.is_busy(fault):
+                raise
+            if self.locked_since is None:
+                self.locked_since = now
+                self.say(f"{files.shown(self.path)}: another program has it; results wait")
+            self.next_commit = now + COMMIT_SECONDS
+            return
+        self.waiting.clear()
+        self.new_hosts.clear()
+        self.locked_since = None
+        self.next_commit = time.monotonic() + COMMIT_SECONDS
+
+    def write_waiting(self) -> None:
+        self.database.executemany("INSERT OR IGNORE INTO host (name, id) VALUES (?, ?)", self.new_hosts.items())
+        self.database.executemany(INSERT.format(table="run"), self.waiting.values())
 
     def close(self) -> None:
         """Keeps what came last, too."""
         try:
-            self.database.commit()
+            with reported(self.path):
+                self.commit()
         finally:
             self.database.close()
+            self.runs.close()
+
+    # ---- results of before
+
+    def believed(self, table: str, more: str = "", words: Sequence[Any] = ()) -> Iterator[tuple[list[Any], Names]]:
+        """The rows that are believed, each with the names of its hosts and sitting."""
+        for row in self.database.execute(f"{RECORDS.format(table=table)} {more}", words):
+            if self.trust.believes(row):
+                yield list(row[: len(NAMES)]), Names(*row[len(NAMES) : -2])
+
+    def arrange(self, signature: str, wanted: Iterable[Run]) -> Moved:
+        """Puts the results of runs aside that are no more in the campaign, takes those back that are in it again, and
+        numbers all as they stand there now. The signature is that of the runs: where it is that of before all stand as they
+        stood."""
+        if self.is_empty or self.about("signature") == signature:
+            return Moved(0, 0)
+        names = {str(name) for (name,) in self.database.execute("SELECT name FROM run UNION SELECT name FROM aside")}
+        numbers = {run.name: run.number for run in wanted if run.name in names}
+
+        def move() -> Moved:
+            self.database.execute("CREATE TEMP TABLE moved AS SELECT * FROM run WHERE 0")
+            self.database.execute("CREATE TEMP TABLE gone AS SELECT * FROM run WHERE 0")
+            aside = back = 0
+            for table in ("aside", "run"):  # what stands in both is taken from the second
+                for row, of in self.believed(table):
+                    is_wanted = row[1] in numbers
+                    back += is_wanted and table == "aside"
+                    aside += not is_wanted and table == "run"
+                    row[0] = numbers.get(row[1], row[0])
+                    put = INSERT.format(table="moved" if is_wanted else "gone")
+                    self.database.execute(put, self.with_sums(row, of))
+            self.database.execute("DELETE FROM run")
+            self.database.execute("DELETE FROM aside")
+            self.database.execute("INSERT OR REPLACE INTO run SELECT * FROM moved")
+            self.database.execute("INSERT INTO aside SELECT * FROM gone")
+            self.database.execute("DROP TABLE moved")
+            self.database.execute("DROP TABLE gone")
+            return Moved(aside, back)
+
+        return self.patiently(lambda: self.transaction(move))
+
+    def count_aside(self) -> int:
+        return int(self.database.execute("SELECT count(*) FROM aside").fetchone()[0])
+
+    def drop_aside(self) -> int:
+        """Drops the results of runs that are no more in the campaign; how many."""
+        names = [str(name) for (name,) in self.database.execute("SELECT name FROM aside")]
+        for name in names:
+            self.remove_files(name)
+        self.patiently(lambda: self.transaction(lambda: self.database.execute("DELETE FROM aside")))
+        return len(names)
+
+    def known(self, numbers: Sequence[int]) -> dict[int, tuple[list[Any], Names]]:
+        """The results of these runs that are believed, by their numbers."""
+        if self.is_empty:
+            return {}
+        found = self.believed("run", "WHERE r.number IN (SELECT value FROM json_each(?))", (compact(list(numbers)),))
+        return {row[0]: (row, of) for row, of in found}
+
+    def without_result(self, numbers: Sequence[int]) -> list[int]:
+        """Which of these runs have no row."""
+        query = "SELECT number FROM run WHERE number IN (SELECT value FROM json_each(?))"
+        there = {number for (number,) in self.database.execute(query, (compact(list(numbers)),))}
+        return [number for number in numbers if number not in there and number not in self.waiting]
+
+    def is_final(self, row: Sequence[Any], traces: str) -> bool:
+        """Whether a result is one that another attempt would come to as well, with a trace where one is to be kept."""
+        return row[OUTCOME] in runs.FINAL and (row[TRACE] is not None or row[OUTCOME] not in TRACED[traces])
+
+    def take_over(self, row: list[Any], of: Names) -> None:
+        """A result of before belongs to this sitting."""
+        of = Names(of.host, of.second, *self.went_by)
+        self.waiting[row[0]] = self.with_sums([*row[:-1], self.sitting], of)
+
+    def adopt(self, row: Sequence[Any], of: Names) -> None:
+        """Takes the result of another file over, with the sitting that it is of."""
+        words = (of.identity, of.program, of.checker)
+        if words not in self.sittings:
+            self.sittings[words] = self.patiently(lambda: self.transaction(lambda: self.begun(words, "merged")))
+        second = None if of.second is None else self.host(of.second)
+        taken = (*row[:-3], self.host(of.host), second, self.sittings[words])
+        self.waiting[row[0]] = self.with_sums(taken, of)
+
+    def begun(self, words: tuple[str, str, str], host: str) -> int:
+        """Notes a sitting: its key."""
+        began = time.strftime("%Y-%m-%dT%H:%M:%SZ", time.gmtime())
+        cursor = self.database.execute(
+            "INSERT INTO sitting (identity, program, checker, host, began) VALUES (?, ?, ?, ?, ?)", (*words, host, began)
+        )
+        return cursor.lastrowid or 0
+
+    def forget(self, host: str) -> "collections.Counter[str]":
+        """Drops the results that a host came to by itself: how many of each outcome in this sitting."""
+        self.commit()
+        key = self.host(host)
+        query = "SELECT outcome, count(*) FROM run WHERE host = ? AND second IS NULL AND sitting = ? GROUP BY outcome"
+        found = collections.Counter(dict(self.database.execute(query, (key, self.sitting))))
+        self.patiently(
+            lambda: self.transaction(
+                lambda: self.database.execute("DELETE FROM run WHERE host = ? AND second IS NULL", (key,))
+            )
+        )
+        return found
+
+    def drop_unbelieved(self) -> None:
+        """What is not believed leaves the file, so that no report tells it."""
+        believes = Trust(self.trust.adopts).believes
+        bad = [row[:1] for row in self.database.execute(RECORDS.format(table="run")) if not believes(row)]
+        if bad:
+            self.patiently(
+                lambda: self.transaction(lambda: self.database.executemany("DELETE FROM run WHERE number IS ?", bad))
+            )
+
+    # ---- new results
+
+    def save(
+        self,
+        run: Run,
+        digest: str,
+        answer: runs.Answer,
+        host: str,
+        attempts: int,
+        second: str | None = None,
+        tried: Sequence[tuple[str, str]] | None = None,
+    ) -> None:
+        """Keeps what came of a run instead of what came of it before."""
+        name = run.name
+        if self.files:
+            self.remove_files(name)
+        trace = None
+        if answer["trace"]:
+            trace = f"runs/{self.write_file(f'{file_name(name)}.trace.gz', answer['trace'])}"
+        if answer["outcome"] != runs.PASSED:
+            with contextlib.suppress(BadInput):  # what is no scenario
+                self.write_file(f"{file_name(name)}.toml", run.scenario())
+                if images := run.images():
+                    self.write_images(f"{file_name(name)}.images", images)
+        hashed = bytes.fromhex(answer["hash"]) if answer["hash"] else None
+        row = (
+            run.number,
+            name,
+            compact(run.parameters),
+            bytes.fromhex(digest),
+            answer["outcome"],
+            answer["message"],
+            *(answer["counts"] or [None] * len(runs.COUNTS)),
+            hashed,
+            compact(answer["compared"]) if answer["compared"] else None,
+            trace,
+            float(answer["seconds"]),
+            float(answer["processor"]),
+            attempts,
+            compact(tried) if tried else None,
+            self.host(host),
+            None if second is None else self.host(second),
+            self.sitting,
+        )
+        self.waiting[run.number] = self.with_sums(row, Names(host, second, *self.went_by))
+
+    @staticmethod
+    def with_sums(row: Sequence[Any], of: Names) -> tuple[Any, ...]:
+        """A row with its two sums, over all that it means."""
+        return (*row, *stored.sums((*row[:OF_RECORD], *of)))
+
+    # ---- the files of runs
+
+    def write_file(self, name: str, content: str | bytes) -> str:
+        self.runs.write(name, content, lasting=False)
+        self.files.add(name)
+        return name
+
+    def write_images(self, name: str, images: Mapping[str, bytes]) -> None:
+        self.files.add(name)
+        with self.runs.entered(name, make=True) as folder:
+            for image, content in images.items():
+                folder.write(image, content, lasting=False)
+
+    def remove_files(self, name: str) -> None:
+        stem = file_name(name)
+        for path in (f"{stem}.toml", f"{stem}.trace.gz"):
+            if path in self.files:
+                self.runs.remove(path)
+                self.files.discard(path)
+        if f"{stem}.images" in self.files:
+            self.runs.remove_folder(f"{stem}.images")
+            self.files.discard(f"{stem}.images")
 
 
-def compact(table: Mapping[str, Any]) -> str:
-    return json.dumps(table, default=str, separators=(",", ":"))
-
-
-def write_images(folder: str, images: Mapping[str, bytes]) -> None:
-    os.makedirs(folder, exist_ok=True)
-    for name, content in images.items():
-        files.write_whole(f"{folder}/{name}", content, lasting=False)
-
-
-@contextlib.contextmanager
-def reading(path: str) -> Iterator[sqlite3.Connection]:
-    """A file of results as it is now, for reports that may take long: a copy of it, so that a campaign that is at work
-    waits no longer than for copying."""
-    if not os.path.exists(path):
-        raise BadInput(f"{files.shown(path)}: no results are there")
-    with reported(path), contextlib.ExitStack() as stack:
-        source = stack.enter_context(contextlib.closing(sqlite3.connect(path, timeout=PATIENCE)))
-        if not is_of_campaign(source):
-            raise BadInput(f"{files.shown(path)}: no results of a campaign")
-        copy = stack.enter_context(contextlib.closing(sqlite3.connect("")))  # of SQLite's own, gone with its end
-        source.backup(copy)
-        yield copy
-
-
-COLUMNS = (
-    "name", "outcome", *runs.COUNTS, "seconds", "processor", "attempts", "host", "parameters", "message", "hash", "compared", "trace",
-    "digest",    "program", "checker", "number",
-)  # fmt: skip
-
-
-def rows(database: sqlite3.Connection, order: str = "number", words: tuple[Any, ...] = ()) -> Iterator[dict[str, Any]]:
-    """The results, one a run, with the parameters as a table."""
-    for row in database.execute(f"SELECT {', '.join(COLUMNS)} FROM result ORDER BY {order}", words):
-        found = dict(zip(COLUMNS, row))
-        found["parameters"] = json.loads(found["parameters"])
-        found["compared"] = json.loads(found["compared"]) if found["compared"] else {}
-        yield found
+def write_images(path: str, images: Mapping[str, bytes]) -> None:
+    """Writes images to a folder that the user named."""
+    with Folder.named(path, make=True) as folder:
+        for name, content in images.items():
+            folder.write(name, content, lasting=False)

@@ -1,29 +1,36 @@
 """Where a run of a campaign takes place: in a process of this machine, or in one of a machine that a worker of dask is on.
 
 A worker gets the simulator, the images and the cases once, as a shipment, and then batches of jobs. A job is the text of
-a scenario, whose images are names of files of the shipment, the index of the check by which it is judged, and images of its
-own by their names, which are all that it has where there are any.
+a scenario, whose images are names of files of the shipment, the index of the check by which it is judged, images of its
+own by their names, which are all that it has where there are any, and moves, or None: what arrives at a node in place of the
+scenario's input, and from the end of which epoch on. Jobs that differ in their moves alone are made by one process.
 
 An answer is a dictionary: `outcome` is one of the words below, `message` says why, `counts` has how many rows of each
 kind the trace has, `hash` is that of the trace, both None where there is no whole trace; `compared` has how much of it was
 compared in each way; `seconds` is the time of the run and its checks, `processor` what the simulator took of processors in it,
-in seconds, `trace` the trace in gzip's format or None, `again`
-whether another attempt can come to something else, and `trouble` whether it was the worker that failed. All of it is of
+in seconds, `trace` the trace in gzip's format or None, `again` whether another attempt can come to something else,
+`trouble` whether it was the worker that failed, and `late` whether the run took more time than it may. All of it is of
 Python's own kinds, so a client reads it whatever the worker has.
+
+A worker trusts its own disk no further than it must. A trace that lacks its end rows is trouble of the worker. Before it
+answers that a run failed or is refused, and at the end of each batch, it compares all that it was sent with what its disk
+has: where that differs it is sick, and what it found since its last comparison is no answer.
 """
 import contextlib
 import dataclasses
 import gzip
 import hashlib
 import io
+import itertools
 import os
+import re
 import shutil
 import tempfile
 import time
 from collections.abc import Iterator, Sequence
-from typing import Any, BinaryIO, cast
+from typing import Any, BinaryIO, NamedTuple, cast
 
-from avrora_tools import calling, cases, comparisons, expectations
+from avrora_tools import calling, cases, cli, comparisons, expectations
 from avrora_tools.errors import ToolError
 from avrora_tools.events import CLASH, ONE_BYTE
 
@@ -31,6 +38,8 @@ PROGRAM = "avrora"  # the simulator's name in a shipment
 
 # The files of a run, and the folder of the scenario and the images of one with images of its own.
 SCENARIO, TRACE, OUTPUT, OWN = "scenario.toml", "trace", "output", "own"
+MOVES, SWEPT_STATE = "moves", "swept.state"  # of runs that one process makes
+WORDS_OF_ONE_STRETCH = 4  # of a line of moves
 
 # All expectations are met; one is not; the scenario or an image is refused; the run came to no answer.
 PASSED, FAILED, REFUSED, BROKEN = "passed", "failed", "refused", "broken"
@@ -52,7 +61,8 @@ TELLING = (b" sent ", b" heard %d " % ONE_BYTE, b" heard %d " % CLASH, b" serial
 
 BLOCK = 1 << 16  # bytes that are looked at together
 
-Job = tuple[str, int, dict[str, bytes]]
+Moves = tuple[int, str]  # epochs before the first byte, and a line of what `avrora sweep` reads
+Job = tuple[str, int, dict[str, bytes], Moves | None]
 Answer = dict[str, Any]
 
 # What a worker runs before it gets a job. By the manual LDI takes one cycle and RJMP, here to itself, two: LDI in cycle 0,
@@ -72,6 +82,13 @@ PROOF_TRACE = (
     + "40 0 end 21 running\n"
 )
 PROOF_SECONDS = 300  # a busy machine is no sick one
+
+# A worker gives back what it has not begun of a batch that took so long: others may have nothing to do.
+SECONDS_A_BATCH = 10.0
+
+# As many bytes as the end rows of all nodes have.
+TAIL = 8_192
+END_ROW = re.compile(rb"([0-9]+) ([0-9]+) end [0-9]+ (?:running|asleep|stopped)")
 
 
 @dataclasses.dataclass(frozen=True)
@@ -109,6 +126,7 @@ class Shipment:
     timeout: int
     traces: str
     words: tuple[str, ...] = ("run", SCENARIO)
+    kinds: tuple[bytes, ...] = ()  # of the rows of a trace those are handed back that have one of these in them
 
 
 class Sick(Exception):
@@ -131,11 +149,15 @@ class Bench:
         self.folder = ""
         self.cases: dict[int, list[cases.Case]] = {}
         self.images: dict[str, bytes] = {}  # that are in the folder of a run's own
+        self.head: tuple[tuple[str, int], bytes] = (("", 0), b"")  # of a scenario's first epochs: their rows
+        self.state_name = SWEPT_STATE
         # For the trace of a run and for what it is compared with. They stay open, as many runs are as short as that takes.
         self.trace: io.FileIO
         self.output: io.FileIO
         self.files = contextlib.ExitStack()
         self.caller = calling.Caller()
+        content = {**shipment.files, PROOF_NAME: PROOF_IMAGE.encode()}
+        self.sums = {name: hashlib.sha256(content).digest() for name, content in content.items()}
 
     def prove(self) -> str | None:
         """Unpacks what is not there, and runs a known scenario. None where it came out as it should, else why not."""
@@ -173,39 +195,162 @@ class Bench:
                 os.chmod(path, 0o755 if name == PROGRAM else 0o644)
 
     def run_batch(self, jobs: Sequence[Job]) -> dict[str, Any]:
-        """The answers to jobs, in order; to the first of them alone where the worker became sick, and then why."""
+        """The answers to jobs, in order. To the first of them alone where the worker became sick, and then why; or where
+        the batch takes long, as others may have nothing to do."""
         answers: list[Answer] = []
-        for job in jobs:
+        sick = None
+        begun = time.monotonic()
+        places = itertools.count()
+        for _, alike in itertools.groupby(jobs, lambda job: repr(job[:2]) + str(job[3][0]) if job[3] else str(next(places))):
+            group = list(alike)
             try:
-                answers.append(self.run(job))
-            except Sick as sick:
-                return {"answers": answers, "sick": str(sick)}
-        return {"answers": answers, "sick": None}
+                answers += self.swept(group) if group[0][3] else [self.run(group[0])]
+            except Sick as fault:
+                sick = str(fault)
+                break
+            if time.monotonic() - begun > SECONDS_A_BATCH:
+                break
+        changed = self.changed()
+        return {"answers": [] if changed else answers, "sick": changed or sick}
 
-    def run(self, job: Job) -> Answer:
-        """Runs a job. Raises Sick where it is the worker that cannot."""
+    def changed(self) -> str | None:
+        """Which file of the shipment the disk has not as it was sent, in words, or None."""
+        for name, expected in self.sums.items():
+            try:
+                with open(f"{self.folder}/{name}", "rb") as file:
+                    found = hashlib.file_digest(file, "sha256").digest()
+            except OSError as fault:
+                return described(fault)
+            if found != expected:
+                return f"its disk has {name} otherwise than it was sent"
+        return None
+
+    def run(self, job: Job, rows: bytes | None = None) -> Answer:
+        """Runs a job, or judges the rows that a process wrote for it beside others. Raises Sick where it is the worker that
+        cannot."""
         start, used = time.monotonic(), self.caller.processor
         try:
             comparisons.empty(self.trace)
-            found = self.judged(job, self.folder_for(job))
+            place = self.folder_for(job)
+            if rows is None:
+                found = self.judged(job, place)
+            else:
+                self.trace.write(rows)
+                found = self.checked_swept(job, place)
+            if found["outcome"] in (FAILED, REFUSED) or job[2]:
+                self.confirm(job, place)
             keeps = self.shipment.traces
             if keeps == "all" or keeps == "failed" and found["outcome"] in (FAILED, BROKEN):
-                found["trace"] = packed(self.trace)
+                found["trace"] = packed(self.trace, self.shipment.kinds)
         except OSError as fault:
             found = answer(BROKEN, described(fault), again=True, trouble=True)
+        except ToolError as fault:  # of a case that the client has read
+            found = answer(BROKEN, str(fault), again=True, trouble=True)
         except MemoryError:
             found = answer(BROKEN, "the worker is out of memory", again=True, trouble=True)
         if found["trouble"]:
-            reason = self.prove()
+            reason = self.changed() or self.prove()
             if reason:
                 raise Sick(reason)
         found["seconds"] = round(time.monotonic() - start, 4)
         found["processor"] = round(self.caller.processor - used, 4)
         return found
 
+    def swept(self, jobs: Sequence[Job]) -> list[Answer]:
+        """Runs jobs that differ in their moves alone, by one process. Where that does not end well each is run by itself."""
+        start, used = time.monotonic(), self.caller.processor
+        try:
+            rows = self.swept_rows(jobs)
+        except (OSError, NoAnswer):
+            rows = None
+        if rows is None or len(rows) != len(jobs):
+            return [self.by_itself(job) for job in jobs]
+        share = (time.monotonic() - start) / len(jobs), (self.caller.processor - used) / len(jobs)
+        answers = []
+        for job, piece in zip(jobs, rows):
+            found = self.run(job, piece)
+            found["seconds"] = round(found["seconds"] + share[0], 4)
+            found["processor"] = round(found["processor"] + share[1], 4)
+            answers.append(found)
+        return answers
+
+    def swept_rows(self, jobs: Sequence[Job]) -> list[bytes] | None:
+        """The rows of each of such jobs, behind those that all have; None where the simulator refuses something."""
+        scenario, _, _, moves = jobs[0]
+        assert moves is not None
+        head = self.head_of(scenario, moves[0])
+        if head is None:
+            return None
+        with named(f"{self.folder}/{MOVES}"), open(f"{self.folder}/{MOVES}", "w", encoding="ascii") as file:
+            file.writelines(job[3][1] for job in jobs if job[3])
+        comparisons.empty(self.output)
+        status, _ = self.said_at_end(self.folder, ["sweep", SCENARIO, self.state_name, MOVES], self.output)
+        if status:
+            return None
+        self.output.seek(0)
+        pieces = swept_pieces(self.output.readall())
+        return pieces and [head + piece for piece in pieces]
+
+    def head_of(self, scenario: str, epochs: int) -> bytes | None:
+        """The rows before the epoch in which the first byte arrives, and the state there, which stay for the jobs behind; None
+        where the simulator refuses that."""
+        if self.shipment.words[0] == "resume":  # the state is in the shipment
+            self.write_scenario(self.folder, scenario)
+            self.state_name = self.shipment.words[-1]
+            return b""
+        key = (scenario, epochs)
+        if self.head[0] != key:
+            self.write_scenario(self.folder, scenario)
+            self.head = (("", 0), b"")
+            with open(f"{self.folder}/{SWEPT_STATE}", "wb", buffering=0) as state:
+                if self.said_at_end(self.folder, ["save", SCENARIO, str(epochs)], state)[0]:
+                    return None
+            comparisons.empty(self.output)
+            if self.said_at_end(self.folder, ["head", SCENARIO, str(epochs)], self.output)[0]:
+                return None
+            self.output.seek(0)
+            self.head = (key, self.output.readall())
+        else:
+            self.write_scenario(self.folder, scenario)
+        self.state_name = SWEPT_STATE
+        return self.head[1]
+
+    def by_itself(self, job: Job) -> Answer:
+        """Runs a job by a process of its own, with its moves as its scenario's input where that can say them."""
+        scenario, check, images, moves = job
+        if moves and len(moves[1].split()) == WORDS_OF_ONE_STRETCH:
+            return self.run((with_moves(scenario, moves[1]), check, images, None))
+        try:
+            rows = self.swept_rows([job])
+        except NoAnswer as end:
+            return end.answer
+        if rows is None or len(rows) != 1:
+            return answer(BROKEN, "the simulator refuses what arrives, or writes no whole trace", again=True)
+        return self.run(job, rows[0])
+
+    def checked_swept(self, job: Job, place: str) -> Answer:
+        """What the checks say of rows that are in the trace already."""
+        try:
+            return self.checked(job[1], job[0], place)
+        except NoAnswer as end:
+            return end.answer
+
+    def confirm(self, job: Job, place: str) -> None:
+        """Raises Sick where the disk has not what the simulator was to read in this run."""
+        scenario, _, images, _ = job
+        wanted = {SCENARIO: scenario.encode(errors="surrogateescape"), **images}
+        for name, content in wanted.items():
+            with named(f"{place}/{name}"), open(f"{place}/{name}", "rb") as file:
+                if file.read(len(content) + 1) != content:
+                    raise Sick(f"its disk has {name} otherwise than it was written")
+        if not images:  # all that it read else is in the shipment, and compared with each batch
+            reason = self.changed()
+            if reason:
+                raise Sick(reason)
+
     def folder_for(self, job: Job) -> str:
         """Where the simulator finds the images of a job, which it seeks from the folder that it works in."""
-        _, _, images = job
+        images = job[2]
         if not images:
             return self.folder
         place = f"{self.folder}/{OWN}"
@@ -231,7 +376,8 @@ class Bench:
         try:
             status, said = self.call(place, words, output, self.shipment.timeout)
         except calling.TooLong:
-            raise NoAnswer(answer(BROKEN, f"took more than {self.shipment.timeout} s", again=True)) from None
+            late = answer(BROKEN, f"took more than {self.shipment.timeout} s", again=True)
+            raise NoAnswer({**late, "late": True}) from None
         trouble = status in WORKER_FAULTS
         if trouble or status < 0 or status in MEMORY_FAULTS:
             raise NoAnswer(answer(BROKEN, f"status {status}: {said}", again=True, trouble=trouble))
@@ -239,7 +385,7 @@ class Bench:
 
     def judged(self, job: Job, place: str) -> Answer:
         """What came of the simulator and of the checks."""
-        scenario, check, _ = job
+        scenario, check = job[:2]
         self.write_scenario(place, scenario)
         try:
             status, said = self.said_at_end(place, self.shipment.words, self.trace)
@@ -254,17 +400,22 @@ class Bench:
     def checked(self, index: int, scenario: str, place: str) -> Answer:
         """Shows all cases the trace of a scenario, and compares it in all ways; the first failure of each is told."""
         check = self.shipment.checks[index]
+        statuses: list[int] = []  # of the calls by which the run is compared
 
         def call(words: Sequence[str], output: io.FileIO) -> str | None:
             status, said = self.said_at_end(place, words, output)
+            statuses.append(status)
             return f"status {status}: {said}" if status else None
 
         compares = comparisons.Place(place, SCENARIO, scenario, self.trace, self.output, call)
         if index not in self.cases:
             self.cases[index] = [self.case(shipped) for shipped in check.cases]
         window: range | None = None
+        ends: Ends | None = None
         with contextlib.suppress(ToolError):  # whether it is a scenario the simulator says
             window = range(*compares.read.window)
+            ends = Ends(compares.read.cycles, len(compares.read.images))
+        self.demand_whole(self.trace, ends, "its trace")
         failures = []
         for shipped, case in zip(check.cases, self.cases[index]):
             self.trace.seek(0)
@@ -278,17 +429,27 @@ class Bench:
                 failures.append(failure)
         compared = {}
         for way in check.ways:
+            statuses.clear()
             try:
                 found = comparisons.WAYS[way](compares)
             except ToolError as fault:
                 found = comparisons.Found(f"{way}: {fault}", 0)
             compared[way] = found.compared
+            if statuses and not any(statuses):
+                self.demand_whole(self.output, ends, f"what was compared by {way}")
             if found.difference:
                 failures.append(found.difference)
         judged = answer(FAILED if failures else PASSED, "\n".join(failures))
         judged["hash"], judged["counts"] = looked_through(self.trace)
         judged["compared"] = compared
         return judged
+
+    @staticmethod
+    def demand_whole(output: io.FileIO, ends: "Ends | None", what: str) -> None:
+        """Raises NoAnswer where an output has not the end rows: the worker lost a part of it."""
+        if not is_whole(output, ends):
+            message = f"{what} is not whole: the rows of its end are not there"
+            raise NoAnswer(answer(BROKEN, message, again=True, trouble=True))
 
     def case(self, shipped: ShippedCase) -> cases.Case:
         """A case of the shipment, by the names that its reader knows."""
@@ -315,7 +476,28 @@ def answer(outcome: str, message: str = "", again: bool = False, trouble: bool =
         "trace": None,
         "again": again,
         "trouble": trouble,
+        "late": False,
     }
+
+
+class Ends(NamedTuple):
+    """The end rows of a trace: in which cycle they stand, and of how many nodes."""
+
+    cycle: int
+    nodes: int
+
+
+def is_whole(trace: io.FileIO, ends: Ends | None) -> bool:
+    """Whether a trace ends with a row for the end of each node, in order; where these are not known, of all up to one."""
+    size = os.fstat(trace.fileno()).st_size
+    start = max(0, size - TAIL)
+    *rows, rest = os.pread(trace.fileno(), size - start, start).split(b"\n")
+    found = [END_ROW.fullmatch(row) for row in rows[-cli.MAX_NODES :]]
+    numbers = [(int(match[1]), int(match[2])) for match in found if match]
+    if rest or not found or not found[-1]:
+        return False
+    cycle, last = ends and (ends.cycle, ends.nodes - 1) or numbers[-1]
+    return numbers[-last - 1 :] == [(cycle, node) for node in range(last + 1)] and all(found[-last - 1 :])
 
 
 @contextlib.contextmanager
@@ -331,13 +513,32 @@ def described(fault: OSError) -> str:
     return f"{fault.filename}: {fault.strerror}" if fault.filename else str(fault.strerror or fault)
 
 
-def packed(trace: io.FileIO) -> bytes:
-    """A file in gzip's format, without a time in it."""
+def packed(trace: io.FileIO, kinds: Sequence[bytes] = ()) -> bytes:
+    """A file in gzip's format, without a time in it; of its rows those with one of these in them."""
     trace.seek(0)
     out = io.BytesIO()
-    with gzip.GzipFile(fileobj=out, mode="wb", mtime=0) as file:
-        shutil.copyfileobj(trace, file)
+    with gzip.GzipFile(fileobj=out, mode="wb", mtime=0, compresslevel=1 if kinds else 6) as file:
+        if kinds:
+            rows = trace.readall().splitlines(keepends=True)
+            file.writelines(row for row in rows if any(kind in row for kind in kinds))
+        else:
+            shutil.copyfileobj(trace, file)
     return out.getvalue()
+
+
+def swept_pieces(output: bytes) -> list[bytes]:
+    """The rows of each run, of those of some: a run ends with its end rows, which are behind all others."""
+    ends = [match.end() for match in re.finditer(rb"^\d+ \d+ end [^\n]*\n(?!\d+ [1-9]\d* end )", output, re.MULTILINE)]
+    return [output[first:end] for first, end in zip([0, *ends], ends)] if ends and ends[-1] == len(output) else []
+
+
+def with_moves(scenario: str, line: str) -> str:
+    """A scenario in which what a line of moves says arrives at its node. The line has one stretch."""
+    node, at, every, digits = line.split()
+    table = f"[[input]]\nnode = {node}\nat = {at}\nevery = {every}\nhex = \"{digits}\"\n"
+    parts = re.split(r"(?m)^(?=\[\[)", scenario)
+    kept = [part for part in parts if not (part.startswith("[[input]]") and re.search(rf"(?m)^node = {node}$", part))]
+    return "".join([*kept, "\n", table])
 
 
 def looked_through(trace: io.FileIO) -> tuple[str, list[int]]:

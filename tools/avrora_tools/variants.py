@@ -6,31 +6,27 @@ index, so that a campaign of a million runs costs no more to begin than one of t
 """
 import copy
 import dataclasses
-import functools
 import hashlib
-import importlib.util
 import json
 import math
 import os
 import re
-import sys
 from collections.abc import Callable, Sequence
-from pathlib import Path
 from typing import Any
 
 from avrora_tools import campaign_keys, checkers, networks, scenarios, toml
 from avrora_tools.campaign_keys import Table, unknown
 from avrora_tools.errors import BadInput
 from avrora_tools.files import printable
+from avrora_tools.states import EPOCH
 
 # The name in the shipment of a file, which is then in it. Raises BadInput where the file cannot be read.
 Ship = Callable[[str], str]
 
+DEFAULT_EVERY = 7_680  # cycles from one byte of an input to the next
+
 # Of an axis with few values each is tried before the first run, so that a bad one is told at once.
 FEW_VALUES = 64
-
-# Networks that a function drew last, at least as many as are under way from their digest to a worker.
-DRAWN_KEPT = 512
 
 
 @dataclasses.dataclass(frozen=True, slots=True)
@@ -74,6 +70,13 @@ class Run:
         """The images of this run alone, by the names that its scenario has for them; others are in the shipment."""
         return self.group.own_images(self.values)
 
+    def job(self, is_alone: bool = False) -> tuple[str, int, dict[str, bytes], tuple[int, str] | None]:
+        """The run for a worker (`runs.Job`). With `is_alone` it is not one of those that a process makes together."""
+        group = self.group
+        moves = None if is_alone else group.moves(self.values)
+        text = group.shipped(self.values) if moves is None else group.unmoved
+        return text, group.check, group.own_images(self.values), moves
+
     def recipe(self) -> str:
         """All that the scenario is made of, the content of its images too, as a text."""
         return self.group.recipe(self.values)
@@ -97,8 +100,39 @@ class Group:
             index, place = divmod(index, len(axis.values))
             values.append(axis.values[place])
         values.reverse()
-        parts = [self.name, *(f"{axis.key}={shown(value)}" for axis, value in zip(self.axes, values))]
-        return Run(number, " ".join(parts), tuple(values), self)
+        name = self.name
+        for axis, value in zip(self.axes, values):
+            name += f" {axis.key}={value if type(value) is int else shown(value)}"
+        return Run(number, name, tuple(values), self)
+
+    def index_of(self, name: str) -> int | None:
+        """The index of the run of this name."""
+        places = self.places_of(name.removeprefix(self.name), 0) if name.startswith(self.name) else None
+        index = 0
+        for axis, place in zip(self.axes, places or ()):
+            index = index * len(axis.values) + place
+        return None if places is None else index
+
+    def places_of(self, text: str, first: int) -> list[int] | None:
+        """The places of the values of the axes from the `first` on that a part of a name has."""
+        if first == len(self.axes):
+            return [] if not text else None
+        axis = self.axes[first]
+        head = f" {axis.key}="
+        if not text.startswith(head):
+            return None
+        rest = text[len(head) :]
+        if isinstance(axis.values, range):
+            number = re.match("-?[0-9]+", rest)
+            found = [(int(number[0]), number[0])] if number and int(number[0]) in axis.values else []
+            choices = [(axis.values.index(value), text) for value, text in found if str(value) == text]
+        else:
+            choices = [(place, shown(value)) for place, value in enumerate(axis.values) if rest.startswith(shown(value))]
+        for place, value in choices:
+            others = self.places_of(rest[len(value) :], first + 1)
+            if others is not None:
+                return [place, *others]
+        return None
 
     def scenario(self, values: Sequence[Any]) -> str:
         raise NotImplementedError
@@ -108,6 +142,13 @@ class Group:
 
     def own_images(self, values: Sequence[Any]) -> dict[str, bytes]:
         return {}
+
+    unmoved = ""  # the scenario of all runs that differ in what arrives at a node
+
+    def moves(self, values: Sequence[Any]) -> tuple[int, str] | None:
+        """What arrives at the node that alone differs from run to run, and how many epochs end before any of it; None where
+        that is not all that differs."""
+        return None
 
     def recipe(self, values: Sequence[Any]) -> str:
         raise NotImplementedError
@@ -140,6 +181,9 @@ class ScenarioGroup(Group):
             if re.fullmatch(r"node\..*\.image", axis.key):
                 names = [value for value in axis.values if isinstance(value, str)]
                 self.images[index] = {value: shipped_image(value, folder, ship) for value in names}
+        self.moved = moved_of(network, axes)
+        if self.moved:
+            self.unmoved = self.shipped([axis.values[0] for axis in axes])
 
     def scenario(self, values: Sequence[Any]) -> str:
         return self.template.filled([value_text(value) for value in values])
@@ -152,6 +196,13 @@ class ScenarioGroup(Group):
         return self.shipped_template.filled(texts)
 
     recipe = shipped
+
+    def moves(self, values: Sequence[Any]) -> tuple[int, str] | None:
+        if self.moved is None:
+            return None
+        node, epochs, script = self.moved
+        at, every, digits = (values[it.axis] if isinstance(it, Slot) else it for it in script)
+        return epochs, f"{node} {at} {every} {digits}\n"
 
     def base(self) -> Any:
         return [self.shipped_template.pieces, sorted(self.images.items())]
@@ -204,80 +255,46 @@ class NetworkGroup(Group):
         return [checkers.version(checkers.NETWORKS), sorted(self.images.items()), sorted(self.table.items())]
 
 
-class DrawnGroup(Group):
-    """Networks with images of their own, which a function of the user draws, each by its number."""
-
-    def __init__(self, place: str, name: str, axes: Sequence[Axis], check: int, path: str) -> None:
-        super().__init__(place, name, axes, check)
-        if [axis.key for axis in axes] != [NUMBER]:
-            raise BadInput(f"{place}: of what is drawn vary has {NUMBER}, and nothing else")
-        self.path = path
-        self.draw = drawing_function(place, path)
-        self.made = functools.lru_cache(DRAWN_KEPT)(self.make)
-        self.made(axes[0].values[0])
-
-    def make(self, number: Any) -> tuple[str, dict[str, bytes]]:
-        try:
-            text, images = self.draw(number)
-            found = str(text), {str(name): bytes(content) for name, content in images.items()}
-        except Exception as fault:  # of a function of the user
-            raise BadInput(f"{self.place}: draw({number}) ended with {type(fault).__name__}: {fault}") from None
-        for name in found[1]:
-            if not re.fullmatch(r"[A-Za-z0-9_-][A-Za-z0-9_.-]{0,99}", name):
-                raise BadInput(f"{self.place}: draw({number}) has an image {printable(name)}, which is no plain name")
-        return found
-
-    def scenario(self, values: Sequence[Any]) -> str:
-        return self.made(values[0])[0]
-
-    shipped = scenario
-
-    def own_images(self, values: Sequence[Any]) -> dict[str, bytes]:
-        return self.made(values[0])[1]
-
-    def recipe(self, values: Sequence[Any]) -> str:
-        try:
-            text, images = self.made(values[0])
-        except BadInput as fault:
-            return json.dumps(str(fault))
-        contents = [[name, hashlib.sha256(content).hexdigest()] for name, content in sorted(images.items())]
-        return json.dumps([text, contents])
-
-    def base(self) -> Any:
-        """What decides what the function draws: Python, and the modules and images of its folder."""
-        folder = Path(self.path).resolve().parent
-        found = [(it.name, it.read_bytes()) for it in sorted(folder.iterdir()) if it.suffix in (".py", ".hex")]
-        return [sys.version, [[name, hashlib.sha256(content).hexdigest()] for name, content in found]]
-
-
-NUMBER = "number"
-
-
-def drawing_function(place: str, path: str) -> Callable[[Any], Any]:
-    """The function `draw` of a Python file, which finds the modules of its folder."""
-    spec = importlib.util.spec_from_file_location("campaign_draw", path)
-    try:
-        if not spec or not spec.loader:
-            raise ImportError("no name of a Python file")
-        module = importlib.util.module_from_spec(spec)
-        sys.path.insert(0, os.path.dirname(os.path.abspath(path)))
-        try:
-            spec.loader.exec_module(module)
-        finally:
-            del sys.path[0]
-    except (Exception, SystemExit) as fault:  # of a file of the user
-        raise BadInput(f"{place}: {printable(path)} cannot be loaded: {type(fault).__name__}: {fault}") from None
-    draw = getattr(module, "draw", None)
-    if not callable(draw):
-        raise BadInput(f"{place}: {printable(path)} has no function draw")
-    return draw  # type: ignore[no-any-return]
-
-
 def shown(value: Any) -> str:
     """A value in the name of a run."""
     if isinstance(value, str):
         return value
     return str(value) if type(value) is int else json.dumps(value, separators=(",", ":"), default=str)
+
+
+def moved_of(network: Table, axes: Sequence[Axis]) -> tuple[int, int, list[Any]] | None:
+    """Where a scenario with slots differs in one node's input alone: that node, how many epochs end before any of its bytes,
+    and its script: the cycle of the first byte, the cycles to the next, and the bytes."""
+    tables = [table for table in network.get("input", ()) if any(isinstance(value, Slot) for value in table.values())]
+    if len(tables) != 1 or len({axis.key.rsplit(".", 1)[0] for axis in axes}) != 1 or not axes[0].key.startswith("input."):
+        return None
+    table = tables[0]
+    script = [table.get("at"), table.get("every", DEFAULT_EVERY), table.get("hex")]
+    allowed: list[Callable[[Any], bool]] = [is_cycle, is_every, is_hex]
+    values = [axes[it.axis].values if isinstance(it, Slot) else [it] for it in script]
+    if isinstance(table.get("node"), Slot) or not all(all(map(fits, of)) for fits, of in zip(allowed, map(ends_of, values))):
+        return None
+    cycles, epochs = network.get("cycles"), min(ends_of(values[0])) // EPOCH
+    if type(cycles) is not int or epochs < 1 or epochs * EPOCH >= cycles:
+        return None
+    return table["node"], epochs, script
+
+
+def ends_of(values: Sequence[Any]) -> Sequence[Any]:
+    """What all values of a range lie between, or all of a list."""
+    return (values[0], values[-1]) if isinstance(values, range) else values
+
+
+def is_cycle(value: Any) -> bool:
+    return type(value) is int and 0 <= value <= 2**40
+
+
+def is_every(value: Any) -> bool:
+    return type(value) is int and 1 <= value <= 65_535
+
+
+def is_hex(value: Any) -> bool:
+    return isinstance(value, str) and bool(re.fullmatch("([0-9A-Fa-f]{2})+", value)) and len(value) < 20_000
 
 
 def shipped_image(image: Any, folder: str, ship: Ship) -> Any:

@@ -1,9 +1,11 @@
 """What the tests of campaign share: a simulator that does as it is told, a campaign of it, and what comes of five runs,
 whoever runs them."""
+import atexit
 import contextlib
 import glob
 import json
 import os
+import shutil
 import signal
 import sqlite3
 import sys
@@ -11,6 +13,11 @@ import tempfile
 
 from support import run_tool
 from avrora_tools import results, runs
+
+# The key by which results are sealed is that of these tests alone.
+STATE_HOME = tempfile.mkdtemp(prefix="avrora-state-")
+os.environ["XDG_STATE_HOME"] = STATE_HOME
+atexit.register(shutil.rmtree, STATE_HOME, ignore_errors=True)
 
 # Stands for the simulator. What it does is told by the latency of the scenario, so that a campaign can vary it: 1 the
 # scenario is refused, 2 it hangs, 3 it fails the first time, 4 it always fails, 5 with a status that another attempt does
@@ -155,11 +162,11 @@ class Outcomes:
     def place(self):
         """The folder of the campaign, and the words that say who runs it."""
         with folder() as path:
-            yield path, ["--processes", "2"]
+            yield path, ["--jobs", "2"]
 
     def test_outcomes_and_attempts(self):
         with self.place() as (path, words):
-            status, out, errors, rows = run_campaign(path, *words, without_dask=words[0] == "--processes")
+            status, out, errors, rows = run_campaign(path, *words, without_dask=words[0] == "--jobs")
             self.assertEqual(status, 1, errors)
             found = {name: (row["outcome"], row["attempts"]) for name, row in rows.items()}
             self.assertEqual(
@@ -172,7 +179,8 @@ class Outcomes:
                     "net latency=30": ("passed", 1),
                 },
             )
-            self.assertEqual(sorted(starts(path)), sorted("1 3 3 4 4 20 30".split()))
+            # What is not passed is made again, on the other worker.
+            self.assertEqual(sorted(starts(path)), sorted("1 1 3 3 4 4 20 20 30".split()))
             self.assertEqual(rows["net latency=1"]["message"], "avrora: scenario.toml: scenario refused: OutOfRange")
             self.assertEqual(rows["net latency=4"]["message"], "status 6: ")
             self.assertIn("net.expect, line 2", rows["net latency=20"]["message"])

@@ -78,7 +78,7 @@ def place(campaign=CAMPAIGN):
 class InACampaign(unittest.TestCase):
     def test_what_differs_is_told(self):
         with place() as path:
-            status, out, errors, rows = run_campaign(path, "--processes", "2")
+            status, out, errors, rows = run_campaign(path, "--jobs", "2")
             self.assertEqual(status, 1, errors)
             found = {row["parameters"]["latency"]: row for row in rows.values()}
             self.assertEqual({latency for latency, row in found.items() if row["outcome"] == "passed"}, {100})

@@ -5,15 +5,16 @@ import unittest
 
 from campaign_runs import folder
 from support import TOOLS, TOP
-from avrora_tools import campaigns, driving, pools, runs
+from avrora_tools import attempts as attempts_module
+from avrora_tools import campaigns, driving, pools, runs, watching
 from avrora_tools.errors import CannotWork
 
 # Begins a campaign: reads it, takes the first of the runs that are wanted, and says what it took.
 BEGIN = """import resource, sys, time
-from avrora_tools import campaigns, results
-from avrora_tools.commands import campaign
+from avrora_tools import campaigns, results, sittings
 read = campaigns.read(sys.argv[1])
-sitting = campaign.Sitting(read, campaigns.Shard(), b"simulator", results.Store(sys.argv[2], False))
+store = results.Store(results.opened_folder(sys.argv[2], make=True))
+sitting = sittings.Sitting(read, sittings.Words(), b"simulator", store)
 first = next(sitting.wanted())
 first.run.shipped()
 print(read.count, time.process_time(), resource.getrusage(resource.RUSAGE_SELF).ru_maxrss)
@@ -62,6 +63,14 @@ class FakePool:
         self.most_held = self.waits = 0
         self.ran = []
         self.batches = {name: 0 for name in seconds}
+        self.now = 0.0
+        self.busy = {name: 0.0 for name in seconds}
+
+    def clock(self):
+        return self.now
+
+    def unproved(self):
+        return []
 
     def send(self, worker, ticket, jobs):
         worker.tickets[ticket] = jobs
@@ -75,7 +84,7 @@ class FakePool:
         for worker in [worker for worker in self.workers if worker.tickets and not events]:
             ticket, jobs = worker.tickets.popitem(last=False)
             self.batches[worker.name] += 1
-            numbers = [int(text) for text, _, _ in jobs]
+            numbers = [int(text) for text, *_ in jobs]
             if worker.name in self.sick and self.batches[worker.name] > 1:
                 events.append(pools.Done(worker, ticket, [], "the disk is full"))
             elif set(numbers) & set(self.killers):
@@ -88,6 +97,8 @@ class FakePool:
                 trouble = worker.name in self.troubled
                 outcome = runs.answer(runs.BROKEN, "no space", again=True, trouble=True) if trouble else runs.answer(runs.PASSED)
                 self.ran += [] if trouble else numbers
+                self.now = max(self.now, self.busy[worker.name]) + len(jobs) * self.seconds[worker.name]
+                self.busy[worker.name] = self.now
                 answers = [{**outcome, "seconds": self.seconds[worker.name]} for _ in jobs]
                 events.append(pools.Done(worker, ticket, answers, None))
         return events
@@ -109,18 +120,15 @@ class Run:
         self.number, self.name, self.group = number, f"run {number}", self
         self.check = 0
 
-    def shipped(self):
-        return str(self.number)
-
-    def images(self):
-        return {}
+    def job(self, is_alone=False):
+        return str(self.number), 0, {}, None
 
 
 class Sharing(unittest.TestCase):
-    def drive(self, pool, count, attempts=3):
+    def drive(self, pool, count, attempts=3, **more):
         saved = {}
 
-        def save(attempt, answer, host):
+        def save(attempt, answer, host, second):
             self.assertNotIn(attempt.run.number, saved, "saved twice")
             saved[attempt.run.number] = answer["outcome"], attempt.number, host
 
@@ -129,12 +137,13 @@ class Sharing(unittest.TestCase):
         def wanted():
             for number in range(count):
                 self.made += 1
-                yield driving.Attempt(Run(number), "digest")
+                yield attempts_module.Attempt(Run(number), "digest")
 
-        progress = driving.Progress(count)
+        progress = watching.Progress(count)
         progress.say = lambda text: None
-        driver = driving.Driver(pool, attempts, progress, save)
-        driver.drive(wanted(), lambda: None)
+        driver = driving.Driver(pool, attempts, progress, save, clock=pool.clock, **{"sample": 0, **more})
+        iterators = [wanted()]
+        driver.drive(lambda: iterators.pop() if iterators else None, lambda: None)
         return saved
 
     def test_a_batch_takes_two_seconds(self):

@@ -7,8 +7,7 @@ import unittest
 
 from campaign_runs import folder, hidden_dask, let_go
 from support import LONG, TOOL, TOP, wait_for
-from avrora_tools import campaigns, results, runs, shipping
-from avrora_tools.commands import campaign as campaign_command
+from avrora_tools import campaigns, results, runs, shipping, sittings
 
 
 class Start(unittest.TestCase):
@@ -44,8 +43,8 @@ class Refused(unittest.TestCase):
         text = '[[run]]\nscenario = "net.toml"\n[run.vary]\nbyte_time = [100]\n'
         with folder(text) as path:
             campaign = campaigns.read(f"{path}/c.toml")
-            with contextlib.closing(results.Store(f"{path}/results", False)) as store:
-                sitting = campaign_command.Sitting(campaign, campaigns.Shard(), b"simulator", store)
+            with results.opened_folder(f"{path}/results", make=True) as place, contextlib.closing(results.Store(place)) as store:
+                sitting = sittings.Sitting(campaign, sittings.Words(), b"simulator", store)
                 run = campaign.run(0)
                 line = run.scenario().splitlines().index("byte_time = 100") + 1
                 refusal = runs.answer(runs.REFUSED, "avrora: scenario refused: OutOfRange")
@@ -62,8 +61,8 @@ class Refused(unittest.TestCase):
         """And not by that of its content."""
         with folder('[[run]]\nscenario = "net.toml"\n') as path:
             campaign = campaigns.read(f"{path}/c.toml")
-            with contextlib.closing(results.Store(f"{path}/results", False)) as store:
-                sitting = campaign_command.Sitting(campaign, campaigns.Shard(), b"simulator", store)
+            with results.opened_folder(f"{path}/results", make=True) as place, contextlib.closing(results.Store(place)) as store:
+                sitting = sittings.Sitting(campaign, sittings.Words(), b"simulator", store)
                 (shipped,) = campaign.files
                 refusal = runs.answer(runs.REFUSED, f"avrora: {shipped}: image refused: NoEnd")
                 self.assertEqual(sitting.explained(campaign.run(0), refusal), "avrora: a.hex: image refused: NoEnd")

@@ -10,7 +10,7 @@ from campaign_runs import SIMULATOR
 
 pytest.importorskip("distributed", reason="needs dask.distributed (Debian's python3-distributed)")
 
-JOB = ('version = 3\ncycles = 5_000\nlatency = 20\n[[node]]\nimage = "a.hex"\n', 0, {})
+JOB = ('version = 3\ncycles = 5_000\nlatency = 20\n[[node]]\nimage = "a.hex"\n[[node]]\nimage = "a.hex"\n', 0, {}, None)
 
 
 @pytest.fixture

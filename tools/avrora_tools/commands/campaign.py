@@ -1,7 +1,6 @@
 """Runs a list or a grid of scenarios on all processors of this machine, or on a cluster."""
 import argparse
 import contextlib
-import hashlib
 import os
 import re
 import signal
@@ -9,10 +8,9 @@ import sys
 from collections.abc import Callable, Iterator
 from types import FrameType
 
-from avrora_tools import campaigns, checkers, cli, driving, files, pools, reports, results, runs, scenarios, shipping, terminal
+from avrora_tools import campaigns, cli, coverage, files, reports, results, runs, shipping, sittings, stored, terminal, watching
 from avrora_tools.campaigns import Campaign, Shard
-from avrora_tools.errors import BadInput, BadWords, CannotWork, Status, ToolError
-from avrora_tools.variants import Run
+from avrora_tools.errors import BadInput, BadWords, Status
 
 SUMMARY = "many runs, and what came of them"
 
@@ -27,96 +25,54 @@ FILE is TOML (CAMPAIGNS.md has all of it):
   "input.2.at" = { from = 2_000, to = 50_000, step = 2_000 }
 
 What comes of each run is a row of NAME.results/results.sqlite, so a campaign that was cut goes on where it was by the
-same words. A run that came to no answer (its worker died, it took too long) is begun again, `attempts` times in all.
+same words. A run that came to no answer (its worker died, it took too long) is begun again, `attempts` times in all. One
+that is not passed is made again on another worker before it is told.
 Status 0: all runs are passed; 1: one is failed or refused; 2: FILE is no campaign; 3: none is failed, and one came to
 no answer, or the campaign cannot go on."""
 
-SQLITE_MAGIC = b"SQLite format 3\0"
-
-RUNS_A_PAUSE = 500  # that are looked at one after another for whether their results are there
-
-
-def folder_of(campaign: Campaign, shard: Shard, named: str | None) -> str:
-    """The folder of a campaign's results; a shard has its own in it."""
-    folder = named or os.path.join(campaign.folder, campaign.settings["results"] or f"{campaign.name}.results")
-    return folder if shard.count == 1 else os.path.join(folder, f"shard-{shard.number}-of-{shard.count}")
+def place_of(campaign: Campaign, shard: Shard, named: str | None) -> str | tuple[str, str]:
+    """Where a campaign's results are: a folder that the user named, or one below the campaign's. A shard has its own in it."""
+    part = "" if shard.count == 1 else f"shard-{shard.number}-of-{shard.count}"
+    if named:
+        return os.path.join(named, part) if part else named
+    name = campaign.settings["results"] or f"{campaign.name}.results"
+    return os.path.dirname(campaign.path), os.path.join(name, part) if part else name
 
 
-class Sitting:
-    """One call of a campaign: what is wanted of it, and what is saved."""
-
-    def __init__(self, campaign: Campaign, shard: Shard, simulator: bytes, store: results.Store) -> None:
-        self.campaign, self.shard, self.store = campaign, shard, store
-        self.traces = campaign.settings["traces"]
-        identity = hashlib.sha256(simulator).hexdigest()
-        checker = checkers.version()
-        self.digests = campaigns.Digests(campaign, identity, checker)
-        signature = campaign.signature(shard)
-        store.arrange(signature, campaign.runs(shard))
-        self.numbers = shard.numbers(campaign.count)
-        # Of each number whether its result is there and of this very content.
-        self.is_kept = bytearray(campaign.count)
-        whole = hashlib.sha256(f"{identity} {checker} {signature}".encode()).hexdigest()
-        for number in store.numbers_kept(whole, self.traces):
-            self.is_kept[number] = 1
-        store.begin(campaign.name, len(self.numbers), whole, identity, checker)
-        self.progress = driving.Progress(len(self.numbers))
-        self.progress.kept = sum(self.is_kept)
-
-    def wanted(self) -> Iterator[driving.Attempt | None]:
-        """What has no result yet; a None after each few runs that have one."""
-        skipped = 0
-        for number in self.numbers:
-            if not self.is_kept[number]:
-                run = self.campaign.run(number)
-                digest = self.digests.of(run)
-                if not self.store.keeps(run, digest, self.traces):
-                    yield driving.Attempt(run, digest)
-                    continue
-                self.progress.kept += 1
-            skipped += 1
-            if skipped % RUNS_A_PAUSE == 0:
-                yield None
-
-    def save(self, attempt: driving.Attempt, answer: runs.Answer, host: str) -> None:
-        answer = {**answer, "message": self.explained(attempt.run, answer)}
-        self.store.save(attempt.run, attempt.digest, answer, host, attempt.number)
-
-    def explained(self, run: Run, answer: runs.Answer) -> str:
-        """The message of an answer. Of a scenario that was refused it says where the fault is, in the file that is kept,
-        and an image that was refused has the name that the user gave it."""
-        message = str(answer["message"])
-        if answer["outcome"] != runs.REFUSED:
-            return message
-        for name, path in self.campaign.shipped_from.items():
-            message = message.replace(name, path)
-        with contextlib.suppress(BadInput):  # what is no scenario
-            found = scenarios.faults(run.scenario())
-            if found:
-                return f"{message}\nruns/{campaigns.file_name(run.name)}.toml: {scenarios.described(found[0])}"
-        return message
-
-    def rest(self) -> None:
-        self.store.commit(if_due=True)
+def path_of(place: str | tuple[str, str]) -> str:
+    return place if isinstance(place, str) else os.path.join(*place)
 
 
-def run_all(campaign: Campaign, arguments: argparse.Namespace) -> int:
+@contextlib.contextmanager
+def opened_store(campaign: Campaign, arguments: argparse.Namespace) -> Iterator[results.Store]:
+    """The results of a campaign, for it alone."""
+    place = place_of(campaign, arguments.shard, arguments.results)
+    with contextlib.ExitStack() as stack:
+        folder = stack.enter_context(results.opened_folder(place, make=True))
+        stack.enter_context(results.reported(folder.path_of(results.FILE)))
+        stack.enter_context(results.locked(folder))
+        yield stack.enter_context(contextlib.closing(results.Store(folder, arguments.anew, arguments.adopt)))
+
+
+def run_all(campaign: Campaign, words: sittings.Words, arguments: argparse.Namespace) -> int:
     """Runs what has no result yet, and tells what came of all runs."""
     simulator = shipping.program(arguments.avrora)
-    folder = folder_of(campaign, arguments.shard, arguments.results)
-    os.makedirs(folder, exist_ok=True)
-    with contextlib.ExitStack() as stack:
-        stack.enter_context(results.reported(f"{folder}/{results.FILE}"))
-        stack.enter_context(results.locked(folder))
-        store = stack.enter_context(contextlib.closing(results.Store(folder, arguments.anew)))
-        sitting = Sitting(campaign, arguments.shard, simulator, store)
-        if sitting.progress.kept:
-            terminal.warn(f"{sitting.progress.kept} of {sitting.progress.total} results are there already, and are kept")
-        run_wanted(sitting, simulator, arguments)
+    with opened_store(campaign, arguments) as store, watching.logging_to(store.folder.descriptor) as log:
+        sitting = sittings.Sitting(campaign, words, simulator, store, log)
+        sitting.progress.note(
+            f"a sitting begins: {campaign.name}, {len(sitting.numbers)} runs, program {sitting.identity.program[:16]}, "
+            f"checker {sitting.identity.checker[:16]}, {arguments.scheduler or 'this machine'}"
+        )
+        sittings.warn_of_results(sitting)
+        sittings.run_wanted(sitting, simulator)
+        for line in store.trust.told():
+            sitting.progress.say(f"{line}; these runs were made again")
+        store.drop_unbelieved()
         report = reports.Report([store.database])
-        reports.write_summaries(report, folder)
-        report.print_table(sys.stdout, f"{folder}/summary.txt")
+        reports.write_summaries(report, store.folder)
+        report.print_table(sys.stdout, store.folder.path_of("summary.txt"))
         status = status_of(report)
+        sitting.progress.note(f"the sitting ends with status {int(status)}: {report.closing_line()}")
     return status
 
 
@@ -127,33 +83,6 @@ def status_of(report: reports.Report) -> Status:
     if outcomes[runs.FAILED] or outcomes[runs.REFUSED]:
         return Status.NOT_MET
     return Status.GOOD if outcomes[runs.PASSED] == report.total() else Status.CANNOT_WORK
-
-
-def run_wanted(sitting: Sitting, simulator: bytes, arguments: argparse.Namespace) -> None:
-    """Runs all that has no result; what came of it is saved however it ends."""
-    campaign, progress = sitting.campaign, sitting.progress
-    if progress.kept == progress.total:
-        return
-    settings = campaign.settings
-    shipment = runs.Shipment(
-        {**campaign.files, runs.PROGRAM: simulator}, campaign.checks, settings["timeout"], settings["traces"]
-    )
-    pool = None
-    try:
-        count = progress.total - progress.kept
-        pool = pools.pool(arguments.scheduler, arguments.processes, shipment, count, sitting.store.folder)
-        driving.Driver(pool, settings["attempts"], progress, sitting.save).drive(sitting.wanted(), sitting.rest)
-    except (KeyboardInterrupt, ToolError):
-        there = progress.kept + progress.outcomes.total()
-        progress.say(f"cut, with {there} of {progress.total} results; the same command goes on from there")
-        raise
-    finally:
-        progress.end()
-        try:
-            if pool is not None:
-                pool.close()
-        finally:
-            sitting.store.commit()
 
 
 def end_as_by_interrupt() -> None:
@@ -169,67 +98,135 @@ def end_as_by_interrupt() -> None:
 def report_on(arguments: argparse.Namespace) -> int:
     """Tells what is there of campaigns, or of files of results, also while they run."""
     with contextlib.ExitStack() as stack:
-        paths = [path_of_results(path, arguments) for path in arguments.campaign]
-        databases = [stack.enter_context(results.reading(path)) for path in paths]
-        report = reports.Report(databases, arguments.by, arguments.reverse, arguments.top)
-        written: list[tuple[str | None, Callable[..., None]]] = [
-            (arguments.json, report.write_lines),
-            (arguments.junit, report.write_junit),
-        ]
-        for path, write in written:
-            if path == files.STANDARD_STREAM:
-                write(sys.stdout)
-            elif path:
-                with files.whole_file(path) as file:
-                    write(file)
-        if arguments.parquet:
-            report.write_parquet(arguments.parquet)
-        if not (arguments.json or arguments.junit or arguments.parquet):
-            report.print_table(sys.stdout, None)
+        campaign, paths = files_of(arguments)
+        readings = [stack.enter_context(results.reading(path, arguments.adopt, terminal.say)) for path in paths]
+        covered = coverage.covered(readings, arguments.shard.count > 1)
+        coverage.tell_versions(covered, readings, campaign, sittings.program_known(arguments.avrora))
+        report = reports.Report([reading.database for reading in readings], arguments.by, arguments.reverse, arguments.top)
+        write_report(report, arguments)
+        for line in covered.told:
+            terminal.say(line)
         status = status_of(report)
+        if status == Status.GOOD and not covered.is_whole:
+            status = Status.CANNOT_WORK
     return status
 
 
-def path_of_results(path: str, arguments: argparse.Namespace) -> str:
-    """The file of results that a campaign's file means, or that is one itself."""
-    with files.readable(path), open(path, "rb") as file:
-        if file.read(len(SQLITE_MAGIC)) == SQLITE_MAGIC:
-            return path
-    return f"{folder_of(campaigns.read(path), arguments.shard, arguments.results)}/{results.FILE}"
+def write_report(report: reports.Report, arguments: argparse.Namespace) -> None:
+    written: list[tuple[str | None, Callable[..., None]]] = [
+        (arguments.json, report.write_lines),
+        (arguments.junit, report.write_junit),
+    ]
+    for path, write in written:
+        if path == files.STANDARD_STREAM:
+            write(sys.stdout)
+        elif path:
+            with files.whole_file(path) as file:
+                write(file)
+    if arguments.parquet:
+        report.write_parquet(arguments.parquet)
+    if not (arguments.json or arguments.junit or arguments.parquet):
+        report.print_table(sys.stdout, None)
 
 
-def run_of(campaign: Campaign, name: str) -> Run:
-    for run in campaign.runs():
-        if run.name == name:
-            return run
-    raise BadInput(f"{campaign.path}: no run is called {files.printable(name)}; --list tells all names")
+def files_of(arguments: argparse.Namespace) -> tuple[Campaign | None, list[str]]:
+    """The campaign that the words name, if any, and the files of results that they mean."""
+    campaign, paths = None, []
+    for path in arguments.campaign:
+        if is_results(path):
+            paths.append(path)
+        elif campaign is not None:
+            raise BadWords("one campaign at a time; --report takes several files of results")
+        else:
+            campaign = campaigns.read(path)
+            place = path_of(place_of(campaign, arguments.shard, arguments.results))
+            whole = os.path.join(place, results.FILE)
+            parts = [] if os.path.lexists(whole) or arguments.shard.count > 1 else coverage.shards_in(place)
+            paths += parts or [whole]
+    return campaign, paths
+
+
+def is_results(path: str) -> bool:
+    """Whether a file is one of results, and not a campaign."""
+    with files.opened_named(path) as file, files.readable(path):
+        return file.read(len(stored.SQLITE_MAGIC)) == stored.SQLITE_MAGIC
+
+
+def merge(arguments: argparse.Namespace) -> int:
+    """Takes the results of the campaign's parts over into its own, and tells what is there."""
+    if is_results(arguments.campaign[0]):
+        raise BadWords("--merge wants the campaign first, and then files of results, if any are elsewhere")
+    campaign = campaigns.read(arguments.campaign[0])
+    place = path_of(place_of(campaign, Shard(), arguments.results))
+    paths = arguments.campaign[1:] or coverage.shards_in(place)
+    if not paths:
+        raise BadInput(f"{files.shown(place)}: no results of parts are there")
+    with opened_store(campaign, arguments) as store:
+        store.arrange(sittings.about_of(campaign, Shard())["signature"], campaign.runs())
+        count = coverage.merge(campaign, store, paths, arguments.adopt, terminal.say)
+        store.note(**coverage.about_whole(campaign, store, paths))
+        report = reports.Report([store.database])
+        reports.write_summaries(report, store.folder)
+        terminal.say(f"{count:,} results of {len(paths):,} files are taken over")
+        report.print_table(sys.stdout, store.folder.path_of("summary.txt"))
+        return status_of(report)
 
 
 def run(arguments: argparse.Namespace) -> int:
-    if arguments.images and not arguments.scenario:
-        raise BadWords("--images goes with --scenario")
+    check_words(arguments)
     if arguments.report:
         return report_on(arguments)
-    for word in ("by", "top", "reverse", "json", "junit", "parquet"):
-        if getattr(arguments, word):
-            raise BadWords(f"--{word} goes with --report")
+    if arguments.merge:
+        return merge(arguments)
     if len(arguments.campaign) > 1:
-        raise BadWords("one campaign at a time; --report takes several files of results")
+        raise BadWords("one campaign at a time; --report and --merge take several files of results")
     campaign = campaigns.read(arguments.campaign[0])
     if arguments.list:
         for one in campaign.runs(arguments.shard):
-            print(one.name)
+            print(files.printable(one.name))
         return Status.GOOD
+    campaign.demand_code(arguments.run_code)
     if arguments.scenario:
-        one = run_of(campaign, arguments.scenario)
-        print(one.scenario(), end="")
-        if arguments.images:
-            results.write_images(arguments.images, one.images())
-        elif one.images():
-            terminal.warn("its images were drawn for it; --images FOLDER writes them")
-        return Status.GOOD
+        return write_one(campaign, arguments)
+    words = sittings.Words(
+        arguments.shard,
+        arguments.order,
+        arguments.stop_after,
+        arguments.scheduler,
+        arguments.jobs,
+        arguments.counts,
+        arguments.drop,
+    )
     end_as_by_interrupt()
-    return run_all(campaign, arguments)
+    if arguments.dry_run:
+        sittings.tell_cost(campaign, words, shipping.program(arguments.avrora))
+        return Status.GOOD
+    return run_all(campaign, words, arguments)
+
+
+def check_words(arguments: argparse.Namespace) -> None:
+    """Raises BadWords where words stand together that do not go together."""
+    if arguments.images and not arguments.scenario:
+        raise BadWords("--images goes with --scenario")
+    for word in ("by", "top", "reverse", "json", "junit", "parquet"):
+        if getattr(arguments, word) and not arguments.report:
+            raise BadWords(f"--{word} goes with --report")
+    for word in ("dry_run", "report", "merge", "list", "scenario"):
+        if getattr(arguments, word) and (arguments.stop_after or arguments.counts or arguments.drop or arguments.anew):
+            raise BadWords(f"--{word.replace('_', '-')} runs no campaign, so --anew, --drop, --stop-after and --counts are idle")
+
+
+def write_one(campaign: Campaign, arguments: argparse.Namespace) -> int:
+    """Writes the scenario of one run, and its images."""
+    one = campaign.called(arguments.scenario)
+    if one is None:
+        raise BadInput(f"{campaign.path}: no run is called {files.printable(arguments.scenario)}; --list tells all names")
+    print(one.scenario(), end="")
+    if arguments.images:
+        results.write_images(arguments.images, one.images())
+    elif one.images():
+        terminal.warn("its images were drawn for it; --images FOLDER writes them")
+    return Status.GOOD
 
 
 def shard(text: str) -> Shard:
@@ -241,17 +238,27 @@ def shard(text: str) -> Shard:
 
 
 def configure(parser: argparse.ArgumentParser) -> None:
-    cli.describe(parser, DESCRIPTION, "campaign --processes 2 examples/packet.campaign")
+    cli.describe(parser, DESCRIPTION, "campaign --jobs 2 examples/packet.campaign")
     cli.add_simulator(parser)
     parser.add_argument(
         "--scheduler", metavar="ADDRESS", help="a scheduler of dask, as tcp://HOST:8786; else this machine"
     )
-    parser.add_argument("--processes", type=cli.positive, metavar="N", help="of this machine; else one a processor")
+    parser.add_argument("--jobs", type=cli.positive, metavar="N", help="processes of this machine; else one a processor")
+    parser.add_argument("--run-code", action="store_true", help="run the Python file that `draw` names in FILE")
     parser.add_argument("--results", metavar="FOLDER", help="where results go, whatever FILE says")
     parser.add_argument("--anew", action="store_true", help="run all again, also where a result is there")
     parser.add_argument(
         "--shard", type=shard, default=Shard(), metavar="I/N", help="each Nth run from the Ith on, with results of its own"
     )
+    parser.add_argument(
+        "--order", choices=sittings.ORDERS, default="file", help="runs as they stand, or drawn: each part is a sample of all"
+    )
+    parser.add_argument("--stop-after", type=cli.positive, metavar="N", help="end once N runs are failed or refused")
+    parser.add_argument("--dry-run", action="store_true", help="make 50 drawn runs, keep nothing, and tell what all will cost")
+    parser.add_argument("--drop", action="store_true", help="drop results of runs that are no more in the campaign")
+    parser.add_argument("--adopt", action="store_true", help="believe results that another user or machine wrote")
+    parser.add_argument("--counts", metavar="FILE", help="write the workers' counts to FILE too, for Prometheus' node exporter")
+    parser.add_argument("--merge", action="store_true", help="take the results of parts (--shard) over into those of FILE")
     parser.add_argument("--list", action="store_true", help="write the names of all runs, and run none")
     parser.add_argument("--scenario", metavar="NAME", help="write the scenario of one run, and run none")
     parser.add_argument("--images", metavar="FOLDER", help="with --scenario: write the images that this run alone has")

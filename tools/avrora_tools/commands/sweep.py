@@ -11,7 +11,7 @@ from avrora_tools import cases, cli, files, programs, scenarios, shipping, toml
 from avrora_tools.errors import BadInput, BadWords, Status
 from avrora_tools.states import State
 from avrora_tools.sweeping import findings as grouping
-from avrora_tools.sweeping.cluster import ClusterTails
+from avrora_tools.sweeping.cluster import WRITTEN, ClusterTails
 from avrora_tools.sweeping.events import InputByte, Move, Moved, MovedScenario, is_alone, moved_scenario, parsed_event
 from avrora_tools.sweeping.findings import Finding
 from avrora_tools.sweeping.plans import Cell
@@ -110,7 +110,8 @@ def tails_of(
         raise BadWords("--alone is of runs of this machine")
     tails = ClusterTails(simulator, scenario, state)
     try:
-        tails.connect(arguments.scheduler, shipping.program(arguments.avrora))
+        reads_all = arguments.quick or arguments.expect or arguments.check
+        tails.connect(arguments.scheduler, shipping.program(arguments.avrora), () if reads_all else WRITTEN)
     except BaseException as fault:
         tails.__exit__(type(fault), fault, None)
         raise

@@ -1,35 +1,53 @@
-"""Runs the moves of a sweep on workers that are sent batches of them, as those of a campaign are: on a cluster of dask."""
-import gzip
-import itertools
-import os
-from collections import deque
-from collections.abc import Iterable, Iterator, Sequence
-from dataclasses import dataclass
-from types import TracebackType
+"""Runs the moves of a sweep on workers that are sent batches of them, as those of a campaign are: on a cluster of dask.
 
-from avrora_tools import pools, runs, terminal
+The same rules hold as there (`driving`): what is not well on a worker is made again on another one, one in a hundred runs is made
+by two, and who differs is set aside. A worker hands back those rows alone that the check reads. Before a failure is told the run
+is made here.
+"""
+import collections
+import contextlib
+import gzip
+import os
+from collections.abc import Iterable, Iterator, Sequence
+from types import TracebackType
+from typing import cast
+
+from avrora_tools import driving, pools, runs, sittings, watching
+from avrora_tools.attempts import Attempt
 from avrora_tools.errors import BadInput, CannotWork
 from avrora_tools.files import printable
 from avrora_tools.sweeping.events import Document, Move, MovedScenario
 from avrora_tools.sweeping.simulation import ProcessTails, Simulator, Window, scenario_text
+from avrora_tools.variants import Run
 
-BATCH_SECONDS = 0.5  # that a worker is to take for a batch
-MOST_IN_BATCH = 100
-BATCHES_A_WORKER = 2  # one under way, one that waits for it
 ATTEMPTS = 3  # of a run that comes to no answer
-MOST_WAITING = 4 * MOST_IN_BATCH  # outputs for each worker that have come and cannot be told yet
-WAIT_SECONDS = 1.0
+MOST_WAITING = 20_000  # outputs that have come and cannot be told yet
 
 STATE = "state"  # its name in the shipment
 
+# The rows that a check of what is written reads.
+WRITTEN = (b" serial ", b" stop ")
 
-@dataclass(frozen=True)
+
 class Tail:
-    """A run: which one of those that are asked for, its scenario, and how often it was begun."""
+    """A run, as a campaign's driver knows one: its number, and what a worker is to do."""
 
-    number: int
-    text: str
-    attempt: int = 1
+    check = 0
+
+    def __init__(self, tails: "ClusterTails", number: int, move: Move, window: Window) -> None:
+        self.tails, self.number, self.move, self.window = tails, number, move, window
+        self.group = self
+
+    @property
+    def name(self) -> str:
+        return f"the run of {', '.join(f'{value:,}' for value in self.move)}"
+
+    def job(self, is_alone: bool = False) -> runs.Job:
+        tails, scenario = self.tails, self.tails.scenario
+        if not tails.sweeps or is_alone:
+            return tails.text(scenario.scenario(self.move, self.window)), 0, {}, None
+        text = tails.text(scenario.scenario((*self.move[:-1], None), self.window))
+        return text, 0, {}, (0, scenario.line(self.move[-1]))
 
 
 class ClusterTails(ProcessTails):
@@ -40,15 +58,16 @@ class ClusterTails(ProcessTails):
         super().__init__(simulator, scenario, 1, state)
         nodes: list[dict[str, str]] = scenario.document["node"]
         self.images = {path: f"image{number}.hex" for number, path in enumerate(dict.fromkeys(it["image"] for it in nodes))}
-        self.pool: pools.Pool | None = None
-        self.workers: list[pools.Worker] = []
-        self.reasons: list[str] = []  # of workers that were set aside
-        self.tickets = itertools.count()
-        self.under_way: dict[int, list[Tail]] = {}
-        self.again: deque[Tail] = deque()
-        self.seconds_a_run = 0.0
+        self.stack = contextlib.ExitStack()
+        self.driver: driving.Driver | None = None
+        self.asked: list[tuple[Move, Window]] = []
+        self.come: dict[int, bytes] = {}
+        self.told = 0
+        self.hosts: dict[int, str] = {}  # of runs that passed, by their numbers: who alone said so
+        self.begin_again: dict[int, None] = {}
+        self.other: list[tuple[int, bytes]] = []  # outputs that came out otherwise than they were told
 
-    def shipment(self, program: bytes) -> runs.Shipment:
+    def shipment(self, program: bytes, kinds: Sequence[bytes] = ()) -> runs.Shipment:
         """What a worker gets once; `program` is the simulator as one file."""
         files = {runs.PROGRAM: program}
         for path, name in self.images.items():
@@ -58,16 +77,25 @@ class ClusterTails(ProcessTails):
         if self.state is not None:
             files[STATE] = self.state
             words = ("resume", runs.SCENARIO, STATE)
-        return runs.Shipment(files, [runs.Check(())], int(self.simulator.timeout), "all", words)
+        timeout = max(1, int(self.simulator.timeout))
+        return runs.Shipment(files, [runs.Check(())], timeout, "all", words, tuple(kinds))
 
-    def connect(self, address: str, program: bytes) -> None:
-        """Takes the workers of a scheduler of dask."""
-        self.pool = pools.pool(address, None, self.shipment(program), 1, self.folder.name)
+    def connect(self, address: str, program: bytes, kinds: Sequence[bytes] = ()) -> None:
+        """Takes the workers of a scheduler of dask. They hand those rows back that have one of `kinds` in them, else all."""
+        shipment = self.shipment(program, kinds)
+        pool = pools.pool(address, None, shipment, 1, self.folder.name)
+        self.drive_by(pool, sittings.Arbiter(shipment, self.stack))
+
+    def drive_by(self, pool: pools.Pool, arbiter: driving.Arbiter | None = None) -> None:
+        self.stack.callback(pool.close)
+        progress = watching.Progress(0)
+        progress.next = float("inf")  # the sweep tells how far it is
+        longest = float(self.simulator.timeout)
+        self.driver = driving.Driver(pool, ATTEMPTS, progress, self.keep, self.distrust, arbiter, longest)
 
     def __exit__(self, kind: type[BaseException] | None, fault: BaseException | None, trace: TracebackType | None) -> None:
         try:
-            if self.pool:
-                self.pool.close()
+            self.stack.close()
         finally:
             super().__exit__(kind, fault, trace)
 
@@ -77,97 +105,82 @@ class ClusterTails(ProcessTails):
         return scenario_text({**document, "node": nodes})
 
     def outputs(self, jobs: Iterable[tuple[Move, Window]]) -> Iterator[bytes]:
-        texts = (self.text(self.scenario.scenario(move, window)) for move, window in jobs)
-        wanted = (Tail(number, text) for number, text in enumerate(texts))
-        # what is left of runs that nobody asks for any more
-        self.again.clear()
-        self.under_way.clear()
-        come: dict[int, bytes] = {}
-        told = 0
-        is_at_end = False
-        while True:
-            is_at_end = self.share_out(wanted, len(come)) or is_at_end
-            if is_at_end and not self.under_way and not self.again:
-                return
-            for number, output in self.waited():
-                come[number] = output
-            while told in come:
-                yield come.pop(told)
-                told += 1
+        driver = self.driver
+        assert driver
+        self.asked = list(jobs)
+        self.come, self.told, self.hosts, self.begin_again, self.other = {}, 0, {}, {}, []
+        driver.progress.total += len(self.asked)
+        try:
+            wanted = self.wanted(range(len(self.asked)))
+            while True:
+                for _ in driver.steps(wanted):
+                    yield from self.told_in_order()
+                yield from self.told_in_order()
+                if not self.begin_again:
+                    return
+                again, self.begin_again = list(self.begin_again), {}
+                wanted = self.wanted(again)
+        finally:
+            self.forget()
 
-    def share_out(self, wanted: Iterator[Tail], waiting: int) -> bool:
-        """Gives each worker what it has room for, unless so many outputs wait for one before them; whether nothing is left."""
-        for worker in sorted(self.workers, key=lambda it: len(it.tickets)):
-            while len(worker.tickets) < BATCHES_A_WORKER and waiting <= MOST_WAITING * len(self.workers):
-                batch = list(itertools.islice(itertools.chain(self.begun_again(), wanted), self.size()))
-                if not batch:
-                    return True
-                self.send(worker, batch)
-        return False
+    def wanted(self, numbers: Iterable[int]) -> Iterator[Attempt | None]:
+        for number in numbers:
+            while len(self.come) > MOST_WAITING:
+                yield None
+            move, window = self.asked[number]
+            yield Attempt(cast(Run, Tail(self, number, move, window)), "")  # a driver needs no more of it
 
-    def begun_again(self) -> Iterator[Tail]:
-        while self.again:
-            yield self.again.popleft()
+    def told_in_order(self) -> Iterator[bytes]:
+        while self.told in self.come:
+            self.told += 1
+            yield self.come.pop(self.told - 1)
 
-    def size(self) -> int:
-        """How many runs take a batch's time, as far as runs were made."""
-        return max(1, min(MOST_IN_BATCH, int(BATCH_SECONDS / self.seconds_a_run))) if self.seconds_a_run else 1
+    def forget(self) -> None:
+        """What is left of runs that nobody asks for any more is of no use."""
+        assert self.driver
+        for batch in self.driver.under_way.values():
+            for attempt in batch.attempts:
+                attempt.is_settled = True
+        self.driver.again.clear()
+        self.driver.progress.total = self.driver.progress.done
 
-    def send(self, worker: pools.Worker, batch: list[Tail]) -> None:
-        assert self.pool
-        ticket = next(self.tickets)
-        self.under_way[ticket] = batch
-        self.pool.send(worker, ticket, [(tail.text, 0, {}) for tail in batch])
+    def keep(self, attempt: Attempt, answer: runs.Answer, host: str, second: str | None) -> None:
+        """Takes what came of a run, on which host, and on which other one it came to the same."""
+        if answer["outcome"] == runs.REFUSED:
+            raise BadInput(answer["message"])
+        if answer["outcome"] != runs.PASSED:
+            raise CannotWork(f"a run came to no answer {attempt.number} times: {printable(answer['message'])}")
+        number = attempt.run.number
+        output = gzip.decompress(answer["trace"])
+        if second is None:
+            self.hosts[number] = host
+        if number < self.told:
+            self.other.append((number, output))
+        else:
+            self.come[number] = output
 
-    def waited(self) -> Iterator[tuple[int, bytes]]:
-        """The runs that have come, by their numbers. Raises CannotWork where no worker is left, or a run came to nothing."""
-        assert self.pool
-        if not self.pool.has_hope():
-            raise CannotWork(f"all workers are set aside: {'; '.join(self.reasons) or 'none came'}")
-        for event in self.pool.wait(WAIT_SECONDS):
-            if isinstance(event, pools.Proved):
-                self.workers.append(event.worker)
-            elif isinstance(event, pools.SetAside):
-                self.tell_aside(event.worker, event.reason)
-            elif isinstance(event, pools.Lost):
-                self.drop(event.worker)
-                terminal.say(f"the worker {printable(event.worker.name)}: {printable(event.reason)}")
-                for tail in itertools.chain(*(self.under_way.pop(ticket, []) for ticket in event.tickets)):
-                    self.begin_again(tail, event.reason)
-            else:
-                yield from self.done(event)
+    def distrust(self, host: str) -> "collections.Counter[str]":
+        """What a worker alone said of runs is begun again, also where it was told."""
+        numbers = [number for number, it in self.hosts.items() if it == host]
+        for number in numbers:
+            del self.hosts[number]
+            self.come.pop(number, None)
+            self.begin_again[number] = None
+        return collections.Counter({runs.PASSED: len(numbers)} if numbers else {})
 
-    def done(self, event: pools.Done) -> Iterator[tuple[int, bytes]]:
-        batch = self.under_way.pop(event.ticket, [])
-        for tail, answer in zip(batch, event.answers):
-            if answer["outcome"] == runs.PASSED:
-                yield tail.number, gzip.decompress(answer["trace"])
-            elif answer["again"]:
-                self.begin_again(tail, answer["message"])
-            else:
-                raise BadInput(answer["message"])
-        if event.answers:
-            self.seconds_a_run = max(1e-6, sum(it["seconds"] for it in event.answers) / len(event.answers))
-        if event.sick is not None:
-            assert self.pool
-            self.drop(event.worker)
-            left = batch[len(event.answers) :]
-            for ticket in list(event.worker.tickets):
-                left += self.under_way.pop(ticket, [])
-            self.again.extend(left)
-            self.pool.set_aside(event.worker)
-            self.tell_aside(event.worker, event.sick)
+    def told_anew(self) -> list[tuple[int, bytes]]:
+        """The places among the jobs, and the outputs, of runs that were begun again after they had been told."""
+        found, self.other = self.other, []
+        return found
 
-    def begin_again(self, tail: Tail, reason: str) -> None:
-        if tail.attempt == ATTEMPTS:
-            raise CannotWork(f"a run came to no answer {ATTEMPTS} times: {printable(reason)}")
-        self.again.append(Tail(tail.number, tail.text, tail.attempt + 1))
+    def made_here(self, place: int) -> bytes | None:
+        """The rows of a run as this machine makes them, before a failure of it is told."""
+        return self.output(*self.asked[place])
 
-    def drop(self, worker: pools.Worker) -> None:
-        if worker in self.workers:
-            self.workers.remove(worker)
-
-    def tell_aside(self, worker: pools.Worker, reason: str) -> None:
-        self.drop(worker)
-        self.reasons.append(f"{worker.name}: {reason}")
-        terminal.say(f"the worker {printable(worker.name)} is set aside: {printable(reason)}")
+    def was_wrong(self, place: int) -> None:
+        """What a worker answered to a run was not so."""
+        host = self.hosts.get(place)
+        driver = self.driver
+        worker = next((it for it in driver.workers if it.name == host), None) if driver else None
+        if driver and worker:
+            driver.doubt(worker, "what it said of a run is not so on this machine")

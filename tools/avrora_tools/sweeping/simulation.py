@@ -160,6 +160,17 @@ class ProcessTails:
                 self.threads.shutdown(wait=True, cancel_futures=True)
             self.threads = None
 
+    def made_here(self, place: int) -> bytes | None:
+        """Of the runs that were asked for, the rows of that of this place as this machine makes them, where others made it."""
+        return None
+
+    def was_wrong(self, place: int) -> None:
+        """What others said of a run is not so here."""
+
+    def told_anew(self) -> Sequence[tuple[int, bytes]]:
+        """Runs that came out otherwise once they were told, where others made them: their places, and their rows."""
+        return ()
+
     def batch(self, before: Move, window: Window, values: list[int]) -> list[bytes]:
         if self.sweeps:
             return self.swept(before, values, window)

@@ -77,17 +77,29 @@ class Sweep:
         """Makes the runs, and tells after each what has come of them."""
         begun = time.monotonic()
         outputs = self.first_look(options) if options.quick else self.all_outputs(options)
-        for cell, move, output in outputs:
+        for cell, move, place, output in outputs:
             results = self.results
             results.runs += 1
             results.ran[cell] = None
             results.seconds = time.monotonic() - begun
-            if wrong := self.check.failure(move, output):
+            if wrong := self.failure(move, place, output):
                 results.failures.setdefault(cell, wrong)
                 results.first_failure = results.first_failure or (move, wrong, results.runs, results.seconds)
             yield results
             if results.failures and options.stop or results.runs == options.runs:
                 return
+
+    def failure(self, move: Move, place: int, output: bytes) -> str | None:
+        """What is wrong with a run, which is the one of this place among those that were asked for. Where others made it, it is
+        made here before it is told."""
+        wrong = self.check.failure(move, output)
+        own = self.tails.made_here(place) if wrong else None
+        if own is None:
+            return wrong
+        right = self.check.failure(move, own)
+        if right != wrong:
+            self.tails.was_wrong(place)
+        return right
 
     def chosen(self, cell: Cell, options: Options) -> list[Move]:
         """The moves of a class that are run: one of those that are asked for, or all of them."""
@@ -95,14 +107,16 @@ class Sweep:
         moves = [(*cell.before, x) for x in cell.arrivals.moves if (x - span.first) % span.step == 0]
         return moves if options.each_move else moves[:1]
 
-    def all_outputs(self, options: Options) -> Iterator[tuple[Cell, Move, bytes]]:
+    def all_outputs(self, options: Options) -> Iterator[tuple[Cell, Move, int, bytes]]:
         cells = in_rounds(self.cells, self.between, options.per_place)
         jobs = [(cell, move) for cell in cells for move in self.chosen(cell, options)]
         outputs = self.tails.outputs((move, NO_WINDOW) for _, move in jobs)
-        for (cell, move), output in zip(jobs, outputs):
-            yield cell, move, output
+        for place, ((cell, move), output) in enumerate(zip(jobs, outputs)):
+            yield cell, move, place, output
+        for place, output in self.tails.told_anew():
+            yield *jobs[place], place, output
 
-    def first_look(self, options: Options) -> Iterator[tuple[Cell, Move, bytes]]:
+    def first_look(self, options: Options) -> Iterator[tuple[Cell, Move, int, bytes]]:
         by_values: dict[Move, list[Cell]] = {}
         for cell in self.cells:
             if self.chosen(cell, options):
@@ -112,9 +126,10 @@ class Sweep:
             look = FirstLook(cells, self.between, options.grid, self.scenario.until)
             for jobs in look.rounds():
                 moves = [(self.chosen(cells[i], options)[0], window) for i, window in jobs]
-                for (i, window), (move, _), output in zip(jobs, moves, self.tails.outputs(moves)):
+                outputs = self.tails.outputs(moves)
+                for place, ((i, window), (move, _), output) in enumerate(zip(jobs, moves, outputs)):
                     look.orders[i, window] = self.order_of(output, window, clocks)
-                    yield cells[i], move, output
+                    yield cells[i], move, place, output
 
     def order_of(self, output: bytes, window: Window, clocks: dict[int, int]) -> int:
         """A number that tells orders of uses apart."""
