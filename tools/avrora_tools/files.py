@@ -69,8 +69,11 @@ def opened_named(name: str) -> Iterator[BinaryIO]:
 
 
 def is_below(path: str, folder: str) -> bool:
-    """Whether a file lies in a folder, wherever links lead."""
-    return os.path.realpath(path).startswith(os.path.join(os.path.realpath(folder), ""))
+    """Whether a file lies in a folder, wherever links lead, and has no other name, by which it may lie elsewhere."""
+    with contextlib.suppress(OSError, ValueError):
+        is_alone = os.stat(path).st_nlink == 1
+        return is_alone and os.path.realpath(path).startswith(os.path.join(os.path.realpath(folder), ""))
+    return False
 
 
 @contextlib.contextmanager
@@ -83,7 +86,7 @@ def untold(path: str, folder: str) -> Iterator[None]:
         place = re.match(re.escape(shown(path)) + r"(?:, line \d+)?", str(fault))
         if not place or is_below(path, folder):
             raise
-        where = f"it lies outside of {shown(folder)}, so none of its text is told"
+        where = f"it lies outside of {shown(folder)}, or has another name, so none of its text is told"
         raise BadInput(f"{place[0]}: not what it is to be; {where}") from None
 
 

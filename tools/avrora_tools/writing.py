@@ -1,8 +1,8 @@
 """Writing files: whole or not at all, in folders that are held open, and along no link.
 
 A repository of a stranger may have a link where a tool writes. A file is written beside, and renamed once all of it is
-written. A link in its place is refused. So is a link on the way there from the working folder. On the way of an absolute name
-to another place, which the user gave, links are followed.
+written. A link in its place is refused, and so is one on the way there. Those alone are followed that lie in a folder of the
+system, where no repository lies.
 """
 import contextlib
 import errno
@@ -23,6 +23,9 @@ from avrora_tools.showing import STANDARD_STREAM, printable, shown
 ENTERED = os.O_PATH | os.O_DIRECTORY | os.O_CLOEXEC
 NO_LINK = os.O_NOFOLLOW | os.O_CLOEXEC
 
+# Folders in which links are followed, as /var/run is: root alone makes them there.
+OF_THE_SYSTEM = ("/", "/home", "/mnt", "/opt", "/run", "/srv", "/usr", "/var")
+
 READER_SECONDS = 10  # that a pipe may be without one, when it is written to
 
 # Names of the process's own files, which are links wherever they lead.
@@ -40,25 +43,18 @@ class Folder:
     @classmethod
     def named(cls, path: str, make: bool = False) -> "Folder":
         """A folder that the user named. With `make` it is made where it is not there, and so are those above it. Raises
-        BadInput where a link is within a name below the working folder, or at the end of another one."""
+        BadInput where a link is on the way."""
         with renamed(path):
             within = below_here(path)
             if within is not None:
                 return cls(os.open(".", ENTERED), "").walked(within.split("/"), make)
-            above, name = os.path.split(path.rstrip("/"))
-            if make:
-                os.makedirs(above, exist_ok=True)
-            return cls(os.open(above, ENTERED), above).walked([name], make)
+            return cls(os.open("/", ENTERED), "/").walked(path.split("/"), make)
 
     @classmethod
     def above(cls, path: str) -> "Folder":
-        """The folder of a file that the user named. Raises BadInput where a link is within a name below the working folder."""
-        within = below_here(path)
-        if within is not None:
-            return cls.named(os.path.dirname(within) or ".")
-        folder = os.path.dirname(path)
-        with renamed(path):
-            return cls(os.open(folder, ENTERED), folder)
+        """The folder of a file that the user named, as `named` has it."""
+        within = path if (found := below_here(path)) is None else found
+        return cls.named(os.path.dirname(within) or ".")
 
     def below(self, path: str, make: bool = False) -> "Folder":
         """The folder of this relative name in this one, which stays open. Raises BadInput where the name leads out of it, by
@@ -85,7 +81,8 @@ class Folder:
                 with contextlib.suppress(FileExistsError):
                     os.mkdir(name, dir_fd=self.descriptor)
             try:
-                return Folder(os.open(name, ENTERED | NO_LINK, dir_fd=self.descriptor), path)
+                follows = 0 if self.path in OF_THE_SYSTEM else NO_LINK
+                return Folder(os.open(name, ENTERED | follows, dir_fd=self.descriptor), path)
             except OSError:
                 self.refuse_link(name)
                 raise
@@ -215,7 +212,9 @@ def below_here(path: str) -> str | None:
     """A name of a file by the working folder, which it begins with where it begins with `/`; None where it does not."""
     if not path.startswith("/"):
         return path
-    here = os.getcwd() + "/"
+    here = os.path.join(os.getcwd(), "")
+    if here == "/":
+        return None
     return path.removeprefix(here) if path.startswith(here) else None
 
 

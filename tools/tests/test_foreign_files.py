@@ -20,6 +20,7 @@ def place(tmp_path):
     os.symlink("../secret/file", tmp_path / "mine" / "link")
     os.symlink("../secret/new", tmp_path / "mine" / "dangling")
     os.symlink("../secret", tmp_path / "mine" / "folder")
+    os.link(tmp_path / "secret" / "file", tmp_path / "mine" / "second")
     os.mkfifo(tmp_path / "mine" / "pipe")
     yield tmp_path / "mine"
     assert (tmp_path / "secret" / "file").read_text() == SECRET
@@ -33,7 +34,7 @@ def expect(place, case, *words):
     return status, out
 
 
-@pytest.mark.parametrize("name", ["@/secret/file", "../secret/file", "link", "folder/file", "folder/rows", "@/secret/rows"])
+@pytest.mark.parametrize("name", ["@/secret/file", "../secret/file", "link", "second", "folder/file", "folder/rows", "@/secret/rows"])
 def test_secrets_are_not_told(place, name):
     name = name.replace("@", str(place.parent))
     for case in (f"trace {name}\n* * sent *\n", f"trace relay.trace\ngolden {name}\n", f"trace relay.trace\ngolden {name} without cycles\n"):
@@ -66,7 +67,7 @@ def test_golden_traces_are_saved_here_alone(place, name):
     name = name.replace("@", str(place.parent))
     status, out = expect(place, f"trace relay.trace\ngolden {name}\n", "--save")
     assert status == 2 and ("leads out of" in out or "a link" in out or "no file" in out)
-    assert sorted(os.listdir(place)) == ["a.expect", "dangling", "folder", "link", "pipe", "relay.trace"]
+    assert sorted(os.listdir(place)) == ["a.expect", "dangling", "folder", "link", "pipe", "relay.trace", "second"]
     assert not (place.parent / "b.rows").exists()
 
 

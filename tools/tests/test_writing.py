@@ -76,11 +76,15 @@ class TestFiles:
         with refused("out: a link"):
             files.write_whole(f"{place}/{path}" if is_absolute else path, "c")
 
-    def test_a_link_on_the_way_of_an_absolute_name(self, place, tmp_path, monkeypatch):
-        """The user's own, as /var/run is."""
+    @pytest.mark.parametrize("here", ["far", "/"])
+    def test_a_link_on_the_way_of_an_absolute_name(self, place, tmp_path, monkeypatch, here):
+        """Those of the system alone are followed, as /var/run is."""
         (tmp_path / "far").mkdir()
         os.symlink("here", tmp_path / "link")
-        monkeypatch.chdir(tmp_path / "far")
+        monkeypatch.chdir(tmp_path / here)
+        with refused("link: a link"):
+            files.write_whole(f"{tmp_path}/link/a", "c")
+        monkeypatch.setattr(writing, "OF_THE_SYSTEM", ("/", str(tmp_path)))
         files.write_whole(f"{tmp_path}/link/a", "c")
         assert (place / "a").read_text() == "c"
 
