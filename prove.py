@@ -86,9 +86,12 @@ class Kit:
         self.folder = os.path.dirname(os.path.dirname(os.path.realpath(rt)))
         if not os.path.isfile(f"{self.folder}/KIT-ID"):
             # slower, and right wherever rt lies
-            self.folder = os.path.dirname(subprocess.run(["rt", "doc"], capture_output=True, text=True, check=True).stdout.strip())
-        with open(f"{self.folder}/KIT-ID", encoding="utf-8") as it:
-            self.identity = it.read()
+            self.folder = os.path.dirname(subprocess.run(["rt", "doc"], capture_output=True, text=True, check=False).stdout.strip())
+        try:
+            with open(f"{self.folder}/KIT-ID", encoding="utf-8") as it:
+                self.identity = it.read()
+        except OSError as fault:
+            raise NotProved(f"{rt} is of no Rattle kit: it has no KIT-ID") from fault
 
     def library(self, name):
         return f"{self.folder}/rlibs/{name}.rlib"

@@ -28,6 +28,7 @@ from pathlib import Path
 
 import lemmas
 from doc_maps import Repository, wrong_maps
+from gating import packages
 
 TOP = Path(__file__).resolve().parent.parent
 
@@ -259,6 +260,11 @@ def missing(command, shell):
     return None
 
 
+def package_of(program):
+    """The Debian package of a program, as far as the list of the tests' packages tells."""
+    return next((it.name for it in packages.listed() if it.kind == "program" and it.shown_by == program), program)
+
+
 def agrees(lines, wanted):
     """Whether the lines begin as wanted; `...` stands for any lines."""
     if not wanted:
@@ -290,13 +296,13 @@ def run_commands(path, text, shell, skip=print):
                 place = os.path.join(place, it[1])
                 continue
             if lacks := missing(command, shell):
-                skip(f"{where}: skipped, {lacks} is not installed: {command}")
+                skip(f"{where}: skipped, {command} needs {lacks} (Debian's {package_of(lacks)})")
                 continue
             ran = shell.run(command, place)
             lines = ran.stdout.decode(errors="replace").splitlines()
             lacks = LACKING.search("\n".join(lines))
             if lacks and ran.returncode in LACKS:
-                skip(f"{where}: skipped, {lacks[1]} is not installed: {command}")
+                skip(f"{where}: skipped, {command} needs a package (Debian's {lacks[1]})")
             elif not agrees(lines, wanted) or (not wanted and ran.returncode):
                 yield "\n".join([f"{where}: {command}", "  is to print first", *(f"    {it}" for it in wanted), f"  and printed, with status {ran.returncode}", *(f"    {it}" for it in lines[: len(wanted) + 2])])
 
@@ -320,8 +326,8 @@ def main():
     if program and not os.access(program, os.X_OK):
         parser.error(f"there is no program {program}; ./avrora builds it")
     if cause := why_no_files():
-        print(f"check_docs: skipped: {cause}")
-        return 0
+        print(f"check_docs: nothing can be checked: {cause}", file=sys.stderr)
+        return 3
     if given.counts:
         for path, text in documents().items():
             (TOP / path).write_text(COUNT.sub(right_count, text), encoding="utf-8")

@@ -5,7 +5,6 @@ prove, what a signal ends, and what stands below the program's line on a termina
     scripts/test_first_run.py
 """
 import contextlib
-import io
 import os
 import pty
 import shutil
@@ -18,6 +17,7 @@ import unittest
 from pathlib import Path
 
 import fake_kit
+from gating import suites
 
 TOP = Path(__file__).resolve().parent.parent
 
@@ -168,19 +168,5 @@ def read_to_end(terminal):
     return said
 
 
-def main():
-    if lacks := [it for it in NEEDS if not shutil.which(it)]:
-        print(f"test_first_run: skipped all tests: {', '.join(lacks)} is not installed")
-        return 0
-    result = unittest.TextTestRunner(stream=io.StringIO(), verbosity=0).run(unittest.defaultTestLoader.loadTestsFromTestCase(FirstRun))
-    for test, text in result.errors + result.failures:
-        print(f"test_first_run: {test}\n{text}", file=sys.stderr)
-    for test, cause in result.skipped:
-        print(f"test_first_run: skipped {test.id()}: {cause}")
-    well = result.wasSuccessful()
-    print(f"test_first_run: {'every test is met' if well else 'a test is not met'}")
-    return int(not well)
-
-
 if __name__ == "__main__":
-    sys.exit(main())
+    sys.exit(suites.run("test_first_run", sys.modules[__name__], NEEDS))

@@ -10,7 +10,6 @@ in a system that has nothing else.
 """
 import contextlib
 import functools
-import io
 import os
 import re
 import shutil
@@ -27,6 +26,7 @@ sys.path.insert(1, str(TOP))
 import check_docs  # pylint: disable=wrong-import-position
 import fake_kit  # pylint: disable=wrong-import-position
 import prove  # pylint: disable=wrong-import-position
+from gating import suites  # pylint: disable=wrong-import-position
 from releases import debian, gates, manuals  # pylint: disable=wrong-import-position
 
 # Seconds that nothing takes but what hangs.
@@ -227,8 +227,7 @@ class Making(OfARepository):
 
     def test_the_gate_begins_as_its_log_is_known(self):
         """The first line of .ci/run is the one by which scripts/release knows its log."""
-        for path in ("scripts/check_docs.py", "scripts/test_first_run.py", "scripts/test_release.py", "tools/test"):
-            fake_kit.write(self.repository.top / path, "#!/bin/sh\n")
+        fake_kit.write(self.repository.top / "scripts/before_gate.py", "")
         self.repository.commit()
         head = self.repository.head()
         begin = lambda: gates.BEGINS.match(ran([self.repository.top / ".ci/run"], self.repository.top, fake_kit.environment(self.repository.kit))[1]).groupdict()
@@ -532,7 +531,7 @@ class Package(OfARepository):
 
     def test_lintian(self):
         if not shutil.which("lintian"):
-            self.skipTest("lintian is not installed")
+            self.skipTest("needs lintian (Debian's lintian)")
         package = self.package
         if program := real_program():
             status, _, err = self.repository.release("--unproved", program, out="real")
@@ -614,7 +613,7 @@ class Manuals(OfARepository):
         self.assertIn(".TP\n\\fBSelfLink\\fR\na link from a node to itself\n", scenario)
         self.assertIn(".TP\nheard: \\fBCYCLE NODE heard STATUS BYTE AGE\\fR\n", trace)
         if not shutil.which("man"):
-            self.skipTest("man is not installed")
+            self.skipTest("needs man (Debian's man-db)")
         for it in pages:
             shown = ran(["man", "--warnings", "-l", "-Tutf8", it], self.place, {**fake_kit.environment(), "MANWIDTH": "80", "LC_ALL": "C.UTF-8"})
             self.assertEqual((shown[0], shown[2]), (0, ""), it)
@@ -670,9 +669,10 @@ class Running(OfARepository):
         self.assertEqual((status, out.splitlines()[-1]), (1, "packet: 100 runs, 96 passed, 4 failed"), err)
 
     def test_the_script_for_pipelines(self):
-        lacks = [it for it in ("avr-gcc", "avr-objcopy") if not shutil.which(it)]
-        if lacks or ran(["/usr/bin/python3", "-c", "import junit_xml"], self.place)[0]:
-            self.skipTest(f"{', '.join(lacks) or 'python3-junit.xml'} is not installed")
+        if not shutil.which("avr-gcc"):
+            self.skipTest("needs avr-gcc (Debian's gcc-avr)")
+        if ran([os.environ.get("PYTHON", "/usr/bin/python3"), "-c", "import junit_xml"], self.place)[0]:
+            self.skipTest("needs junit_xml (Debian's python3-junit.xml)")
         mine = self.place / "my firmware"
         mine.mkdir()
         for name in ("relay", "flood", "packet"):
@@ -692,20 +692,10 @@ class Running(OfARepository):
 
 
 def main():
-    if lacks := [it for it in NEEDS if not shutil.which(it)]:
-        print(f"test_release: skipped all tests: {', '.join(lacks)} is not installed")
-        return 0
     if cause := check_docs.why_no_files():
-        print(f"test_release: skipped all tests: {cause}")
-        return 0
-    result = unittest.TextTestRunner(stream=io.StringIO(), verbosity=0).run(unittest.defaultTestLoader.loadTestsFromModule(sys.modules[__name__]))
-    for test, text in result.errors + result.failures:
-        print(f"test_release: {test}\n{text}", file=sys.stderr)
-    for test, cause in result.skipped:
-        print(f"test_release: skipped {test.id()}: {cause}")
-    well = result.wasSuccessful()
-    print(f"test_release: {'every test is met' if well else 'a test is not met'}")
-    return int(not well)
+        print(f"test_release: no test can run: {cause}", file=sys.stderr)
+        return suites.CANNOT
+    return suites.run("test_release", sys.modules[__name__], NEEDS)
 
 
 if __name__ == "__main__":

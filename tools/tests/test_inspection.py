@@ -14,7 +14,7 @@ from support import run_tool
 
 PROGRAM = os.environ.get("AVRORA_PROGRAM")
 needs_program = pytest.mark.skipif(not PROGRAM, reason="AVRORA_PROGRAM names no program")
-needs_compiler = pytest.mark.skipif(not shutil.which("avr-gcc"), reason="avr-gcc is not installed")
+needs_compiler = pytest.mark.skipif(not shutil.which("avr-gcc"), reason="needs avr-gcc (Debian's gcc-avr)")
 
 UINT8 = Renamed("uint8_t", Base("unsigned char", 1, 0x08))
 INT16 = Base("int", 2, 0x05)
