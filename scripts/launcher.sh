@@ -119,10 +119,13 @@ require_processor() {
 
 # Does what the words ask, and ends with the status of it: launch WORD ..
 launch() {
-    local program said status line
+    local program said status line folder
     [[ -e /dev/fd/0 ]] || exec </dev/null
     while [[ ${1-} == -C && $# -ge 2 ]]; do
-        if ! cd -- "$2" 2>/dev/null; then
+        # a path from here begins with ./, so that neither CDPATH nor `-` leads elsewhere
+        folder=$2
+        [[ $folder == /* ]] || folder=./$folder
+        if ! cd -- "$folder" 2>/dev/null; then
             echo "avrora: cannot read $2" >&2
             exit "$CANNOT_READ"
         fi

@@ -42,7 +42,7 @@ def main(words):
     crate = room.crates[name]
     prove.prove(room, [it for it in room.crates if it != name])
     with tempfile.TemporaryDirectory() as kept:
-        words = [f"{room.kit.folder}/bin/rattle", "check", *room.given(crate, 1)]
+        words = [f"{room.kit.folder}/bin/rattle", "check", *prove.given(room, crate, 1)]
         words += ["--incremental", kept, "--stage-times", f"{kept}/stages"]
         began, used = time.time(), os.times()
         ran = subprocess.run(words, cwd=crate.folder, stdin=subprocess.DEVNULL, capture_output=True, text=True, errors="replace", check=False)
