@@ -31,6 +31,7 @@ case $1 in
     refused) echo 'avrora: a.hex: image refused: NoEnd' >&2; exit 5 ;;
     selflink) echo 'avrora: a.toml: scenario refused: SelfLink' >&2; exit 4 ;;
     bad) echo 'avrora: bad command line' >&2; exit 2 ;;
+    say) [[ -z $3 ]] || echo "$3" >&2; exit "$2" ;;
     long) exec -a "$0-long" sleep 3600 ;;
     *) echo "$* in ${PWD##*/}"; cat ;;
 esac

@@ -7,6 +7,7 @@ prove, what a signal ends, and what stands below the program's line on a termina
 import contextlib
 import os
 import pty
+import re
 import shutil
 import signal
 import subprocess
@@ -183,21 +184,62 @@ class FirstRun(OfARepository):
         self.assertTrue(err.startswith("avrora: bad command line\nUsage: "))
         self.assertEqual(err.splitlines().count("avrora: bad command line"), 1)
 
-    def test_what_stands_below_it_on_a_terminal(self):
+    def on_a_terminal(self, *words):
+        """What stands on a terminal after a call, and its status."""
         try:
             ours, theirs = pty.openpty()
         except OSError as it:
             self.skipTest(f"no terminal is to be had here: {it}")
-        self.ended("run")
-        self.assertEqual(self.start("refused", stdout=subprocess.DEVNULL, stderr=theirs).wait(timeout=LONG), 5)
-        self.assertEqual(self.start("selflink", stdout=subprocess.DEVNULL, stderr=theirs).wait(timeout=LONG), 4)
+        status = self.start(*words, stdout=subprocess.DEVNULL, stderr=theirs).wait(timeout=LONG)
         os.close(theirs)
         with open(ours, "rb", buffering=0) as terminal:
-            said = read_to_end(terminal).decode().splitlines()
-        self.assertEqual(said[0], "avrora: a.hex: image refused: NoEnd")
-        self.assertEqual(said[1], "(NoEnd: no line is faulty and none has type 01; docs/FORMATS.md)")
-        self.assertEqual(said[2], "avrora: a.toml: scenario refused: SelfLink")
-        self.assertEqual(said[3], "(SelfLink: a link from a node to itself; docs/FORMATS.md; avrora-tools why FILE says where)")
+            return status, read_to_end(terminal).decode().splitlines()
+
+    def test_what_stands_below_it_on_a_terminal(self):
+        """A line for each status; none where all is well."""
+        self.ended("run")
+        for status, line, below in (
+            (5, "avrora: a.hex: image refused: NoEnd", "(NoEnd: no line is faulty and none has type 01; docs/FORMATS.md)"),
+            (4, "avrora: a.toml: scenario refused: SelfLink", "(SelfLink: a link from a node to itself; docs/FORMATS.md; avrora-tools why FILE says where)"),
+            (8, "avrora: m: moves refused: TooLong, line 2", "(TooLong: a line has more than 65,536 bytes; docs/FORMATS.md)"),
+            (8, "avrora: m: moves refused: TooLong", "(TooLong: it has more than 4,194,304 bytes; docs/FORMATS.md)"),
+            # a name of somebody's choice
+            (8, "avrora: a: image refused: NoEnd: state refused: OutOfBounds, line 3", "(OutOfBounds: the line, another than line 2, "),
+            (1, "avrora: write failed", "(a full disk, a closed descriptor, "),
+            (3, "avrora: cannot read a", "(it is not there, it is a folder, "),
+            (6, "avrora: out of memory", "(the system refused memory; "),
+        ):
+            ended, said = self.on_a_terminal("say", str(status), line)
+            self.assertEqual((ended, said[0], len(said)), (status, line, 2), said)
+            self.assertTrue(said[1].startswith(below), said)
+        self.assertEqual(self.on_a_terminal("say", "9", ""), (9, ["avrora: a word of the command line is no UTF-8, or memory is refused (docs/FAULTS.md)"]))
+        for status in (0, 137):
+            self.assertEqual(self.on_a_terminal("say", str(status), "a line"), (status, ["a line"]))
+
+    def test_each_cause_is_explained(self):
+        """Each row of each table of causes in FORMATS.md, by the line that the program writes."""
+        pairs = 0
+        for part, kind in (("Scenarios", "scenario"), ("Images", "image"), ("Sources", "source"), ("States", "state"), ("Moves", "moves")):
+            for whole, cause, text in causes(part):
+                where = "" if whole or kind == "scenario" else ", line 7"
+                line = f"avrora: a name: {kind} refused: {cause}{where}"
+                words = ["bash", "-c", 'called= own_help= notice= formats=$1; . "$2"; explain 8 "$3"', "bash", TOP / "docs/FORMATS.md", TOP / "scripts/launcher.sh", line]
+                said = subprocess.run(words, capture_output=True, text=True, check=True).stderr
+                self.assertTrue(said.startswith(f"({cause}: {text}; docs/FORMATS.md"), (line, said))
+                pairs += 1
+        self.assertGreaterEqual(pairs, 38)
+
+
+def causes(part):
+    """The causes of a part of FORMATS.md: whether each is one of a whole file, its name, and its text without backquotes."""
+    text = (TOP / "docs/FORMATS.md").read_text(encoding="utf-8")
+    within = re.search(rf"^## {part}.*?\n(.*?)(?=^## |\Z)", text, re.M | re.S)[1]
+    for table in re.findall(r"(?:^\|.*\n)+", within, re.M):
+        head, _, *rows = table.splitlines()
+        if "Fault" in head or "Cause" in head:
+            for row in rows:
+                _, cause, meaning, _ = re.split(r" *\| *", row)
+                yield "whole file" in head, cause.strip("`"), meaning.replace("`", "")
 
 
 class Later(OfARepository):
