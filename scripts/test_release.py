@@ -106,9 +106,9 @@ class Repository:
         path.write_text(f"gate: commit {commit or self.head()}, {changed}{kit}\ncheck_docs: 0 wrong\nrt: ok\n{end}\n", encoding="utf-8")
         return path
 
-    def release(self, *words, out="made", **environment):
+    def release(self, *words, out="made", is_tried=False, **environment):
         """scripts/release, of the log of a gate that passed where no words are given."""
-        words = words or ("--gate-log", self.log())
+        words = [*(words or ("--gate-log", self.log())), *([] if is_tried else ["--untried"])]
         return ran(["scripts/release", *words, self.place / out], self.top, {**fake_kit.environment(self.kit), **environment})
 
     def made(self, out="made"):
@@ -151,7 +151,7 @@ class OfARepository(unittest.TestCase):
     def made(self, *words):
         shutil.rmtree(self.place / "made")
         status, _, err = self.repository.release(*words)
-        self.assertEqual((status, [it for it in err.splitlines() if not it.startswith("avrora: ")]), (0, []))
+        self.assertEqual((status, [it for it in err.splitlines() if not it.startswith(("avrora: ", "release: it was not tried "))]), (0, []))
 
     def assert_refused(self, why, *words):
         """There is no release, and the last line says why."""
@@ -234,6 +234,33 @@ class Making(OfARepository):
         self.assertEqual(begin(), {"commit": head, "changed": None, "kit": fake_kit.IDENTITY})
         (self.repository.top / "new").write_text("", encoding="utf-8")
         self.assertEqual(begin(), {"commit": head, "changed": "changed, ", "kit": fake_kit.IDENTITY})
+
+    def try_by(self, text):
+        """How a release ends that is tried by this script, with what it says last, and the log of the trial."""
+        fake_kit.write(self.repository.top / "scripts/test_bare", f"#!/bin/sh\n{text}\n")
+        self.repository.commit()
+        status, out, err = self.repository.release(is_tried=True)
+        self.assertEqual("deb" in out, status != 2)
+        return status, err.splitlines()[-1], (self.place / "made/trial.log").read_text(encoding="utf-8")
+
+    def test_it_is_tried(self):
+        """A check that is not met is a fault of the release; where nothing can be tried that is said."""
+        line = "test_bare: 2026-01-02, x.tar.gz, commit c, in bookworm: 26 checks, 0 not met"
+        self.assertEqual(self.try_by(f'echo "$1"; echo "{line}"'), (0, f"release: {line}", f"{self.place}/made\n{line}\n"))
+        self.assertEqual(self.try_by("echo 'x: 26 checks, 2 not met'; exit 1"), (1, "release: x: 26 checks, 2 not met", "x: 26 checks, 2 not met\n"))
+        said = "test_bare: only root can make a system"
+        self.assertEqual(self.try_by(f"echo '{said}' >&2; exit 3"), (0, f"release: it was not tried in bare systems: {said}", f"{said}\n"))
+        self.assertEqual(self.try_by("exit 9")[:2], (1, "release: it says nothing"))
+        self.assertIn("release: it was not tried in bare systems: --untried says so\n", self.repository.release()[2])
+
+    def test_what_a_trial_needs(self):
+        """By the script itself: no release, no root or a program that is missing."""
+        script = TOP / "scripts/test_bare"
+        self.assertEqual(ran([script, self.place], self.place)[0], 2)
+        self.assertEqual(ran([script, "--help"], self.place)[0], 0)
+        status, _, err = ran([sys.executable, script, self.place / "made"], self.place, {**fake_kit.environment(), "PATH": "/nowhere"})
+        self.assertEqual(status, 3)
+        self.assertRegex(err, "^test_bare: mmdebstrap, .* is not installed: apt-get install lintian mmdebstrap\n$")
 
     def test_only_what_is_proved(self):
         shutil.rmtree(self.repository.top / "crates/avrora_program/out")
