@@ -134,6 +134,8 @@ def head(text):
 
 
 if __name__ == "__main__":
+    if sys.argv[1:2] in (["--help"], ["-h"]):
+        sys.exit(print(__doc__))
     folder = os.path.join(os.path.dirname(os.path.abspath(__file__)), "..", "crates", "command_facts", "data")
     for name, text, made in (("rows", "each row of the opcode table", rows), ("aliases", "each alias", aliases), ("targets", "labels", targets)):
         with open(os.path.join(folder, name + ".txt"), "w") as out:

@@ -5,7 +5,7 @@ lines with what they print.
     scripts/check_docs.py                  sizes, links, names and maps; it needs nothing but the repository
     scripts/check_docs.py --run [PROGRAM]  also runs the commands, with PROGRAM or the one that `./avrora` built
     scripts/check_docs.py --counts         first puts the counts of stored cases right
-    scripts/check_docs.py --index          first writes the indexes of lemmas, proofs/Lib.antt of each crate
+    scripts/check_docs.py --index          first writes the indexes: of lemmas, proofs/Lib.antt of each crate, and of scripts, docs/SCRIPTS.md
 
 A command is a line `$ COMMAND` of a block that begins with ```console. It runs in a copy of the repository, in its top folder or
 where the last `$ cd DIR` of the document led, and prints first the lines that stand below it; a line `...` stands for any lines,
@@ -26,6 +26,7 @@ import sys
 import tempfile
 from pathlib import Path
 
+import helps
 import lemmas
 from doc_maps import Repository, wrong_maps
 from gating import packages
@@ -320,7 +321,7 @@ def main():
     parser = argparse.ArgumentParser(description=__doc__, formatter_class=argparse.RawDescriptionHelpFormatter)
     parser.add_argument("--run", nargs="?", const=str(TOP / "crates/avrora_program/out/rlib/avrora_program"), metavar="PROGRAM", help="run the commands too")
     parser.add_argument("--counts", action="store_true", help="put the counts of stored cases right")
-    parser.add_argument("--index", action="store_true", help="write the indexes of lemmas")
+    parser.add_argument("--index", action="store_true", help="write the indexes of lemmas and of scripts")
     given = parser.parse_args()
     program = given.run
     if program and not os.access(program, os.X_OK):
@@ -333,10 +334,12 @@ def main():
             (TOP / path).write_text(COUNT.sub(right_count, text), encoding="utf-8")
     if given.index:
         lemmas.write(Repository(TOP, tracked()))
+        helps.write(TOP)
     texts = documents()
     wrong = [it for path, text in texts.items() for check in (sizes, links, names, counts) for it in check(path, text)]
     wrong += crates(texts)
     wrong += wrong_maps(TOP, tracked())
+    wrong += helps.wrong(TOP)
     if program:
         shell = Here(os.path.abspath(program))
         wrong += [it for path in WITH_COMMANDS if path in texts for it in run_commands(path, texts[path], shell)]

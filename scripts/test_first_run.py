@@ -427,4 +427,6 @@ def read_to_end(terminal):
 
 
 if __name__ == "__main__":
+    if sys.argv[1:2] in (["--help"], ["-h"]):
+        sys.exit(print(__doc__))
     sys.exit(suites.run("test_first_run", sys.modules[__name__], NEEDS))
