@@ -28,6 +28,7 @@ from pathlib import Path
 
 import helps
 import lemmas
+import trials
 from doc_maps import Repository, wrong_maps
 from gating import packages
 
@@ -337,6 +338,7 @@ def main():
         helps.write(TOP)
     texts = documents()
     wrong = [it for path, text in texts.items() for check in (sizes, links, names, counts) for it in check(path, text)]
+    wrong += [it for path, text in texts.items() for it in trials.wrong(TOP, path, text)]
     wrong += crates(texts)
     wrong += wrong_maps(TOP, tracked())
     wrong += helps.wrong(TOP)

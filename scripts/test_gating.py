@@ -247,7 +247,7 @@ class Run(Folder):
         for path in (".ci/run", "scripts/before_gate.py", "prove.py", "scripts/proved.py", *(f"scripts/gating/{it.name}" for it in (TOP / "scripts/gating").glob("*.py"))):
             (self.top / path).parent.mkdir(parents=True, exist_ok=True)
             shutil.copy2(TOP / path, self.top / path)
-        for name in ("check_docs", "test_doc_maps", "test_help", "test_gating", "test_first_run", "test_release"):
+        for name in ("check_docs", "test_doc_maps", "test_documents", "test_gating", "test_first_run", "test_release"):
             fake_kit.write(self.top / f"scripts/{name}.py", PART.format(name))
         fake_kit.write(self.top / "tools/test", TOOLS)
         fake_kit.write_crates(self.top)
@@ -280,14 +280,14 @@ class Run(Folder):
     def test_the_last_lines(self):
         status, lines, err, ran = self.run_all()
         self.assertEqual(status, 0, err)
-        self.assertEqual(ran, ["check_docs", "test_doc_maps", "test_help", "test_gating", "test_first_run", "test_release", "rt", "ci"])
+        self.assertEqual(ran, ["check_docs", "test_doc_maps", "test_documents", "test_gating", "test_first_run", "test_release", "rt", "ci"])
         self.assertRegex(lines[0], "^gate: commit unknown, changed, fake-kit logic 01$")
         self.assertEqual(lines[-10:], [
             "one",
             "three",
             "documents: 5 things, 0 wrong",
             "maps: 5 things, 0 wrong",
-            "help: 5 things, 0 wrong",
+            "checks: 5 things, 0 wrong",
             "set-up: 5 things, 0 wrong",
             "first run: 5 things, 0 wrong",
             "release: 5 things, 0 wrong",
@@ -359,4 +359,6 @@ class Run(Folder):
 
 
 if __name__ == "__main__":
+    if sys.argv[1:2] in (["--help"], ["-h"]):
+        sys.exit(print(__doc__))
     sys.exit(suites.run("test_gating", sys.modules[__name__], NEEDS))

@@ -117,7 +117,7 @@ def all_parts(top: str, python: str, folder: str, side_by_side: bool) -> list[Pa
     return [
         Part("documents", [script("check_docs.py")]),
         Part("maps", [script("test_doc_maps.py")]),
-        Part("help", [script("test_help.py")]),
+        Part("checks", [script("test_documents.py")]),
         Part("set-up", [script("test_gating.py")]),
         Part("first run", [script("test_first_run.py")]),
         Part("release", [script("test_release.py")]),
