@@ -244,7 +244,7 @@ class Run(Folder):
     def setUp(self):
         super().setUp()
         self.top = self.place / "repository"
-        for path in (".ci/run", "scripts/before_gate.py", "prove.py", "scripts/proved.py", *(f"scripts/gating/{it.name}" for it in (TOP / "scripts/gating").glob("*.py"))):
+        for path in (".ci/run", "scripts/before_gate.py", "prove.py", "scripts/proved.py", *(str(it.relative_to(TOP)) for folder in ("gating", "proving") for it in (TOP / "scripts" / folder).glob("*.py"))):
             (self.top / path).parent.mkdir(parents=True, exist_ok=True)
             shutil.copy2(TOP / path, self.top / path)
         for name in ("check_docs", "test_doc_maps", "test_documents", "test_gating", "test_first_run", "test_release"):
