@@ -1,6 +1,6 @@
 #!/usr/bin/env python3
-"""Does what `.ci/run` does before the gate: looks at the machine, has the tests' packages installed, and runs the documents', the
-scripts' and the tools' tests. It is called by `.ci/run`, which goes on with the gate.
+"""Does what `.ci/run` does before the gate: looks at the machine, has the tests' packages installed, and runs the
+documents', the scripts' and the tools' tests. It is called by `.ci/run`, which goes on with the gate.
 
     scripts/before_gate.py [--without PACKAGE].. COUNTS    writes what ran to the file COUNTS, a line for each part
 
@@ -34,7 +34,8 @@ def environment_of(python: str, program: str | None) -> dict[str, str]:
 
 
 def program_here() -> str | None:
-    """The program that the tests use: the one that AVRORA_PROGRAM names, else what `./avrora` proved of these sources."""
+    """The program that the tests use: the one that AVRORA_PROGRAM names, else what `./avrora` proved of these
+    sources."""
     if lent := os.environ.get("AVRORA_PROGRAM"):
         return os.path.abspath(lent)
     room = f"{TOP}/crates/{prove.RELEASED}/out/rlib"
@@ -44,7 +45,9 @@ def program_here() -> str | None:
 def count_instructions(program: str | None, without: list[str]) -> int:
     """Whether the program takes no more host instructions than bench/probes.sh allows, as far as there is one."""
     if not program or "valgrind" in without:
-        print(f"bench/probes.sh: skipped, {'valgrind is left out' if program else 'no program is built here'}", flush=True)
+        print(
+            f"bench/probes.sh: skipped, {'valgrind is left out' if program else 'no program is built here'}", flush=True
+        )
         return 0
     return subprocess.run([f"{TOP}/bench/probes.sh", program], stdin=subprocess.DEVNULL, check=False).returncode
 
@@ -66,10 +69,19 @@ def run_parts(python: str, without: list[str]) -> tuple[list[parts.Told], list[s
 
 
 def main(words: list[str]) -> int:
-    parser = argparse.ArgumentParser(prog=".ci/run", description=__doc__, formatter_class=argparse.RawDescriptionHelpFormatter)
+    parser = argparse.ArgumentParser(
+        prog=".ci/run", description=__doc__, formatter_class=argparse.RawDescriptionHelpFormatter
+    )
     listed = packages.listed()
     names = [it.name for it in listed]
-    parser.add_argument("--without", action="append", default=[], choices=names, metavar="PACKAGE", help=f"leave out the tests that need it: {', '.join(names)}")
+    parser.add_argument(
+        "--without",
+        action="append",
+        default=[],
+        choices=names,
+        metavar="PACKAGE",
+        help=f"leave out the tests that need it: {', '.join(names)}",
+    )
     parser.add_argument("counts", metavar="COUNTS")
     given = parser.parse_args(words)
     if cannot := machine.faults(TOP):
@@ -77,20 +89,24 @@ def main(words: list[str]) -> int:
             packages.tell(it)
         return CANNOT
     try:
-        python = packages.set_up([it for it in listed if it.name not in given.without], sys.executable, os.geteuid() == 0)
+        python = packages.set_up(
+            [it for it in listed if it.name not in given.without], sys.executable, os.geteuid() == 0
+        )
     except packages.CannotHave as why:
         packages.tell(str(why))
         return CANNOT
     told, wrong = run_parts(python, given.without)
-    with open(given.counts, "w", encoding="utf-8") as it:
-        it.writelines(f"{part.line()}\n" for part in told)
+    with open(given.counts, "w", encoding="utf-8") as counts:
+        counts.writelines(f"{part.line()}\n" for part in told)
     lacking = list(parts.lacking(told, given.without))
     for line in [*(part.line() for part in told), *wrong, *lacking]:
         packages.tell(line)
     if wrong:
         return WRONG
     if lacking:
-        packages.tell(f"{len(lacking)} tests did not run for want of a package: install it, or leave it out by --without PACKAGE")
+        packages.tell(
+            f"{len(lacking)} tests did not run for want of a package: install it, or leave it out by --without PACKAGE"
+        )
         return CANNOT
     return 0
 

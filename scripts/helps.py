@@ -1,5 +1,6 @@
 """docs/SCRIPTS.md: all scripts of scripts/ and bench/, each with what its help says first."""
 import ast
+import itertools
 import re
 import subprocess
 from pathlib import Path
@@ -11,8 +12,8 @@ INDEX = "docs/SCRIPTS.md"
 HEAD = """\
 # Scripts
 
-For who changes the program or its documents: what can be run here beside `./avrora` and the tools. Each script takes `--help`,
-which names its words. `scripts/check_docs.py --index` writes this page.
+For who changes the program or its documents: what can be run here beside `./avrora` and the tools. Each script takes
+`--help`, which names its words. `scripts/check_docs.py --index` writes this page.
 
 | Script | What it does first of all |
 |---|---|
@@ -24,7 +25,14 @@ SENTENCE = re.compile(r".*?(?:[.:](?=\s)|(?=\n\n)|\Z)", re.S)
 
 def scripts(top: Path) -> list[str]:
     """The paths of all that can be run, but the launcher of a release, which is none of the repository."""
-    listed = subprocess.run(["git", "ls-files", "-s", *FOLDERS], cwd=top, stdin=subprocess.DEVNULL, capture_output=True, text=True, check=True).stdout
+    listed = subprocess.run(
+        ["git", "ls-files", "-s", *FOLDERS],
+        cwd=top,
+        stdin=subprocess.DEVNULL,
+        capture_output=True,
+        text=True,
+        check=True,
+    ).stdout
     found = [line.partition("\t")[2] for line in listed.splitlines() if line.startswith("100755")]
     return [it for it in found if it != "scripts/releases/avrora"]
 
@@ -34,12 +42,14 @@ def help_of(top: Path, path: str) -> str:
     text = (top / path).read_text(encoding="utf-8")
     if text.startswith("#!/usr/bin/env python3"):
         return ast.get_docstring(ast.parse(text)) or ""
-    return "\n".join(line.removeprefix("#").strip() for line in re.match(r"#!.*\n((?:#.*\n)*)", text)[1].splitlines())
+    lines = itertools.takewhile(lambda line: line.startswith("#"), text.splitlines()[1:])
+    return "\n".join(line.removeprefix("#").strip() for line in lines)
 
 
 def first_sentence(text: str) -> str:
     """It, without the point, and in one line."""
-    return " ".join(SENTENCE.match(text)[0].split()).rstrip(".:").replace("|", "/")
+    found = SENTENCE.match(text)
+    return " ".join(found[0].split()).rstrip(".:").replace("|", "/") if found else ""
 
 
 def page(top: Path) -> str:

@@ -1,6 +1,6 @@
 #!/usr/bin/env python3
-"""Tests of `.ci/run` without its gate: what it asks of a machine, how packages come, what a part that did not run does to it, and
-its last lines. Stand-ins for apt-get, `rt` and the parts do what they are told.
+"""Tests of `.ci/run` without its gate: what it asks of a machine, how packages come, what a part that did not run does
+to it, and its last lines. Stand-ins for apt-get, `rt` and the parts do what they are told.
 
     scripts/test_gating.py
 """
@@ -89,9 +89,14 @@ class Packages(Folder):
         self.assertEqual({it for it in asked if "{" not in it} - names, set())
 
     def test_what_is_missing(self):
-        here, gone = packages.Package("a", "module", "json", None), packages.Package("b", "module", "no_such_module", None)
+        here, gone = packages.Package("a", "module", "json", None), packages.Package(
+            "b", "module", "no_such_module", None
+        )
         file, no_file = packages.Package("c", "file", "/", None), packages.Package("d", "file", "/nowhere/at/all", None)
-        self.assertEqual(packages.missing([here, gone, file, no_file, program("sh"), program("one")], sys.executable), [gone, no_file, program("one")])
+        self.assertEqual(
+            packages.missing([here, gone, file, no_file, program("sh"), program("one")], sys.executable),
+            [gone, no_file, program("one")],
+        )
 
     def test_nothing_is_done_where_nothing_is_missing(self):
         self.assertEqual(self.set_up(program("sh")), sys.executable)
@@ -138,7 +143,9 @@ class Packages(Folder):
             self.assertEqual(self.set_up(wanted, is_root=False), python)
             with self.assertRaises(packages.CannotHave):
                 self.set_up(wanted._replace(shown_by="avrora_two", wheel="avrora-two"), is_root=False)
-            self.assertIn("-m pip" if "-m pip" in self.told.getvalue() else "python3 ended with status 1", self.told.getvalue())
+            self.assertIn(
+                "-m pip" if "-m pip" in self.told.getvalue() else "python3 ended with status 1", self.told.getvalue()
+            )
         else:
             self.skipTest("needs ensurepip (Debian's python3-venv)")
 
@@ -147,8 +154,12 @@ class Packages(Folder):
         with zipfile.ZipFile(self.place / "avrora_one-1-py3-none-any.whl", "w") as wheel:
             wheel.writestr("avrora_one.py", "")
             wheel.writestr(f"{facts}/METADATA", "Metadata-Version: 2.1\nName: avrora-one\nVersion: 1\n")
-            wheel.writestr(f"{facts}/WHEEL", "Wheel-Version: 1.0\nGenerator: here\nRoot-Is-Purelib: true\nTag: py3-none-any\n")
-            wheel.writestr(f"{facts}/RECORD", f"avrora_one.py,,\n{facts}/METADATA,,\n{facts}/WHEEL,,\n{facts}/RECORD,,\n")
+            wheel.writestr(
+                f"{facts}/WHEEL", "Wheel-Version: 1.0\nGenerator: here\nRoot-Is-Purelib: true\nTag: py3-none-any\n"
+            )
+            wheel.writestr(
+                f"{facts}/RECORD", f"avrora_one.py,,\n{facts}/METADATA,,\n{facts}/WHEEL,,\n{facts}/RECORD,,\n"
+            )
 
 
 class Machine(Folder):
@@ -168,7 +179,9 @@ class Machine(Folder):
     def test_what_is_too_little(self):
         self.assertEqual(machine.faults(str(self.place), 0, 0), [])
         memory, *disks = machine.faults(str(self.place), 10**18, 10**18)
-        self.assertRegex(memory, r"^[\d.]+ GB of memory are free, and the check of a crate takes up to 1000000000\.0 GB$")
+        self.assertRegex(
+            memory, r"^[\d.]+ GB of memory are free, and the check of a crate takes up to 1000000000\.0 GB$"
+        )
         self.assertRegex(disks[0], rf"^[\d.]+ GB are free on the disk of {self.place}, and the gate writes up to ")
 
 
@@ -180,7 +193,9 @@ class Parts(Folder):
 
     def test_counts(self):
         told = self.part("a: skipped b.test_c: needs x (Debian's one, two)\na: 7 tests, 0 not met, 1 skipped")
-        self.assertEqual((told.ran, told.wrong, told.skips), (6, 0, [parts.Skip("b.test_c", "needs x (Debian's one, two)")]))
+        self.assertEqual(
+            (told.ran, told.wrong, told.skips), (6, 0, [parts.Skip("b.test_c", "needs x (Debian's one, two)")])
+        )
         self.assertEqual(told.line(), "a part: 6 tests, 0 wrong; 1 skipped: needs x (Debian's one, two)")
         self.assertEqual(self.part("a: 17 documents, 2 wrong", 1).line(), "a part: 17 documents, 2 wrong")
 
@@ -191,7 +206,9 @@ class Parts(Folder):
             ("nothing of it ran", "a: 2 tests, 0 not met, 2 skipped", 0),
             ("ended with status 9", "a: 2 tests, 0 not met, 0 skipped", 9),
         ):
-            with self.subTest(why), self.assertRaisesRegex(parts.Failed, why if text else "its last line tells no count"):
+            with self.subTest(why), self.assertRaisesRegex(
+                parts.Failed, why if text else "its last line tells no count"
+            ):
                 self.part(text, status)
 
     def test_a_report(self):
@@ -244,14 +261,27 @@ class Run(Folder):
     def setUp(self):
         super().setUp()
         self.top = self.place / "repository"
-        for path in (".ci/run", "scripts/before_gate.py", "prove.py", "scripts/proved.py", *(str(it.relative_to(TOP)) for folder in ("gating", "proving") for it in (TOP / "scripts" / folder).glob("*.py"))):
+        for path in (
+            ".ci/run",
+            "scripts/before_gate.py",
+            "prove.py",
+            "scripts/proved.py",
+            *(
+                str(it.relative_to(TOP))
+                for folder in ("gating", "proving")
+                for it in (TOP / "scripts" / folder).glob("*.py")
+            ),
+        ):
             (self.top / path).parent.mkdir(parents=True, exist_ok=True)
             shutil.copy2(TOP / path, self.top / path)
         for name in ("check_docs", "test_doc_maps", "test_documents", "test_gating", "test_first_run", "test_release"):
             fake_kit.write(self.top / f"scripts/{name}.py", PART.format(name))
         fake_kit.write(self.top / "tools/test", TOOLS)
         fake_kit.write_crates(self.top)
-        self.write("scripts/gating/packages.txt", "shell program:sh -\nlintian program:sh -\npython3-pytest-xdist program:sh -\nvalgrind program:sh -\n")
+        self.write(
+            "scripts/gating/packages.txt",
+            "shell program:sh -\nlintian program:sh -\npython3-pytest-xdist program:sh -\nvalgrind program:sh -\n",
+        )
         self.write("report.xml", REPORT.format(""))
         self.gate("echo 5 passed, 0 failed")
         subprocess.run(["git", "init", "-q"], cwd=self.top, check=True)
@@ -272,7 +302,12 @@ class Run(Folder):
             stdin=subprocess.DEVNULL, capture_output=True, text=True, timeout=LONG, check=False,
         )  # fmt: skip
         ran = self.top / "ran"
-        return done.returncode, done.stdout.splitlines(), done.stderr, ran.read_text(encoding="utf-8").split() if ran.exists() else []
+        return (
+            done.returncode,
+            done.stdout.splitlines(),
+            done.stderr,
+            ran.read_text(encoding="utf-8").split() if ran.exists() else [],
+        )
 
     def test_a_plain_gate_is_its_last_command(self):
         self.assertIn("rt ci", (TOP / ".ci/run").read_text(encoding="utf-8").splitlines())
@@ -280,7 +315,19 @@ class Run(Folder):
     def test_the_last_lines(self):
         status, lines, err, ran = self.run_all()
         self.assertEqual(status, 0, err)
-        self.assertEqual(ran, ["check_docs", "test_doc_maps", "test_documents", "test_gating", "test_first_run", "test_release", "rt", "ci"])
+        self.assertEqual(
+            ran,
+            [
+                "check_docs",
+                "test_doc_maps",
+                "test_documents",
+                "test_gating",
+                "test_first_run",
+                "test_release",
+                "rt",
+                "ci",
+            ],
+        )
         self.assertRegex(lines[0], "^gate: commit unknown, changed, fake-kit logic 01$")
         self.assertEqual(lines[-10:], [
             "one",
@@ -318,7 +365,10 @@ class Run(Folder):
         self.assertNotIn("rt", ran)
 
     def test_a_part_that_is_not_met(self):
-        fake_kit.write(self.top / "scripts/test_release.py", "import sys\nprint('test_release: 5 tests, 1 not met, 0 skipped')\nsys.exit(1)\n")
+        fake_kit.write(
+            self.top / "scripts/test_release.py",
+            "import sys\nprint('test_release: 5 tests, 1 not met, 0 skipped')\nsys.exit(1)\n",
+        )
         self.assert_no_gate(1, "release: 5 tests, 1 wrong")
         fake_kit.write(self.top / "scripts/test_release.py", "")
         self.assert_no_gate(1, "release: its last line tells no count")
@@ -329,11 +379,13 @@ class Run(Folder):
         self.assert_no_gate(1, "tools: its report cannot be read")
 
     def test_a_test_that_did_not_run(self):
-        self.write("report.xml", REPORT.format("<skipped message=\"needs lintian (Debian's lintian)\"/>"))
+        self.write("report.xml", REPORT.format('<skipped message="needs lintian (Debian\'s lintian)"/>'))
         self.assert_no_gate(3, "tools: b did not run: needs lintian")
         self.assert_no_gate(3, "tools: b did not run: needs lintian", "--without", "valgrind")
         status, lines, err, _ = self.run_all("--without", "lintian")
-        self.assertEqual((status, lines[-2]), (0, "tools: 1 tests, 0 wrong; 1 skipped: needs lintian (Debian's lintian)"), err)
+        self.assertEqual(
+            (status, lines[-2]), (0, "tools: 1 tests, 0 wrong; 1 skipped: needs lintian (Debian's lintian)"), err
+        )
         self.write("report.xml", REPORT.format('<skipped message="no program is built here"/>'))
         self.assertEqual(self.run_all()[0], 0)
 
@@ -352,7 +404,11 @@ class Run(Folder):
         self.assertTrue(lines[0].startswith("What is to pass before a change lands: .ci/run [--without PACKAGE].."))
 
     def test_no_kit(self):
-        self.assert_no_gate(3, "^.ci/run: there is no rt on the PATH", PATH=fake_kit.environment()["PATH"].replace(f"{self.place}/bin:", ""))
+        self.assert_no_gate(
+            3,
+            "^.ci/run: there is no rt on the PATH",
+            PATH=fake_kit.environment()["PATH"].replace(f"{self.place}/bin:", ""),
+        )
 
     def test_no_python(self):
         self.assert_no_gate(3, "^.ci/run: there is no Python of version 3.11 or later", PYTHON="/nowhere")

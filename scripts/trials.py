@@ -13,7 +13,9 @@ TRIED = ("examples", "avrora", "avrora-tools", "scripts/launcher.sh", "scripts/r
 
 
 def git(top: Path, *words: str) -> tuple[int, str]:
-    done = subprocess.run(["git", *words], cwd=top, stdin=subprocess.DEVNULL, capture_output=True, text=True, check=False)
+    done = subprocess.run(
+        ["git", *words], cwd=top, stdin=subprocess.DEVNULL, capture_output=True, text=True, check=False
+    )
     return done.returncode, done.stdout
 
 
@@ -26,7 +28,11 @@ def why_past(top: Path, paragraph: str) -> str | None:
     if git(top, "rev-parse", "-q", "--verify", f"{commit}^{{commit}}")[0]:
         return f"it tells of a trial of commit {commit}, which is none of this repository"
     changed = git(top, "diff", "--name-only", commit, "--", *TRIED)[1].splitlines()
-    return f"it tells of a trial of commit {commit}, and {changed[0]} changed since: try again, or tell of none" if changed else None
+    return (
+        f"it tells of a trial of commit {commit}, and {changed[0]} changed since: try again, or tell of none"
+        if changed
+        else None
+    )
 
 
 def wrong(top: Path, path: str, text: str) -> Iterator[str]:

@@ -3,7 +3,8 @@ import contextlib
 import os
 import tempfile
 
-# The least free memory that the largest check of a crate ends with, and the least room on a disk for what the gate writes, in bytes.
+# The least free memory that the largest check of a crate ends with, and the least room on a disk for what the gate
+# writes, in bytes.
 LEAST_MEMORY = 2_500_000_000
 LEAST_DISK = 3_000_000_000
 
@@ -55,5 +56,7 @@ def faults(top: str, memory: int = LEAST_MEMORY, disk: int = LEAST_DISK) -> list
         found.append(f"{gigabytes(free)} of memory are free, and the check of a crate takes up to {gigabytes(memory)}")
     for place in dict.fromkeys((top, tempfile.gettempdir())):
         if free_disk(place) < disk:
-            found.append(f"{gigabytes(free_disk(place))} are free on the disk of {place}, and the gate writes up to {gigabytes(disk)}")
+            found.append(
+                f"{gigabytes(free_disk(place))} are free on the disk of {place}, and the gate writes up to {gigabytes(disk)}"
+            )
     return found

@@ -17,7 +17,9 @@ APT = [
 ]  # fmt: skip
 
 # Asks an interpreter which of these modules it finds.
-FIND = "import importlib.util, json, sys; print(json.dumps([it for it in sys.argv[1:] if importlib.util.find_spec(it)]))"
+FIND = (
+    "import importlib.util, json, sys; print(json.dumps([it for it in sys.argv[1:] if importlib.util.find_spec(it)]))"
+)
 
 
 class Package(NamedTuple):
@@ -49,17 +51,33 @@ def missing(packages: Iterable[Package], python: str) -> list[Package]:
     """Those that are not here, the modules as this interpreter sees them."""
     packages = list(packages)
     modules = [it.shown_by for it in packages if it.kind == "module"]
-    asked = subprocess.run([python, "-c", FIND, *modules], stdin=subprocess.DEVNULL, capture_output=True, text=True, check=True)
+    asked = subprocess.run(
+        [python, "-c", FIND, *modules], stdin=subprocess.DEVNULL, capture_output=True, text=True, check=True
+    )
     found = set(json.loads(asked.stdout))
-    is_here = {"module": found.__contains__, "program": shutil.which, "file": os.path.exists}
-    return [it for it in packages if not is_here[it.kind](it.shown_by)]
+    return [it for it in packages if not (it.shown_by in found if it.kind == "module" else is_here(it))]
+
+
+def is_here(package: Package) -> bool:
+    """Whether the program or the file of a package is here."""
+    return bool(shutil.which(package.shown_by)) if package.kind == "program" else os.path.exists(package.shown_by)
 
 
 def ended(words: list[str], seconds: int) -> str | None:
     """Why a command did not end well, if it did not; it asks nobody."""
     quiet = {**os.environ, "DEBIAN_FRONTEND": "noninteractive", "DEBCONF_NONINTERACTIVE_SEEN": "true"}
     try:
-        done = subprocess.run(words, env=quiet, stdin=subprocess.DEVNULL, stdout=subprocess.PIPE, stderr=subprocess.STDOUT, text=True, errors="replace", timeout=seconds, check=False)
+        done = subprocess.run(
+            words,
+            env=quiet,
+            stdin=subprocess.DEVNULL,
+            stdout=subprocess.PIPE,
+            stderr=subprocess.STDOUT,
+            text=True,
+            errors="replace",
+            timeout=seconds,
+            check=False,
+        )
     except OSError as fault:
         return f"{words[0]} cannot be run: {fault.strerror}"
     except subprocess.TimeoutExpired:
@@ -82,7 +100,10 @@ def install(names: list[str]) -> list[str]:
 def make_environment(folder: str, python: str, wheels: list[str]) -> list[str]:
     """Makes a private environment over what this interpreter has, with these wheels; what went wrong, a line each."""
     wrong = ended([python, "-m", "venv", "--system-site-packages", folder], WHEELS)
-    wrong = wrong or ended([python_of(folder), "-m", "pip", "install", "-q", "--no-input", "--retries", "1", "--timeout", "30", *wheels], WHEELS)
+    wrong = wrong or ended(
+        [python_of(folder), "-m", "pip", "install", "-q", "--no-input", "--retries", "1", "--timeout", "30", *wheels],
+        WHEELS,
+    )
     return [wrong] if wrong else []
 
 
@@ -123,7 +144,9 @@ def set_up(packages: list[Package], python: str, is_root: bool) -> str:
             tell(it)
         names = [it.name for it in lacks]
         without = " ".join(f"--without {it}" for it in names)
-        raise CannotHave(f"tests need packages that are not here; type\n    {command(names, is_root)}\nor leave their tests out by: .ci/run {without}")
+        raise CannotHave(
+            f"tests need packages that are not here; type\n    {command(names, is_root)}\nor leave their tests out by: .ci/run {without}"
+        )
     return python
 
 

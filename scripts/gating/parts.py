@@ -7,7 +7,9 @@ import xml.etree.ElementTree
 from typing import Iterable, Iterator, NamedTuple
 
 # How a part counts on its last line: what it ran, what of that was not as it is to be, and what it skipped.
-COUNTS = re.compile(r"^\w+: (?P<ran>\d+) (?P<what>\w+), (?P<wrong>\d+) (?:wrong|not met)(?:, (?P<skipped>\d+) skipped)?$")
+COUNTS = re.compile(
+    r"^\w+: (?P<ran>\d+) (?P<what>\w+), (?P<wrong>\d+) (?:wrong|not met)(?:, (?P<skipped>\d+) skipped)?$"
+)
 
 # How a part tells what it skipped, and why.
 SKIPPED = re.compile(r"^\S+: skipped,? (?:(?P<test>\S+): )?(?P<cause>.+)$")
@@ -53,8 +55,8 @@ class Failed(Exception):
 
 
 class Part(NamedTuple):
-    """A part: its name, and the commands that it consists of. What the last of its lines has to say is COUNTS, but where it
-    writes `report`, an XML of JUnit."""
+    """A part: its name, and the commands that it consists of. What the last of its lines has to say is COUNTS, but
+    where it writes `report`, an XML of JUnit."""
 
     name: str
     commands: list[list[str]]
@@ -63,11 +65,25 @@ class Part(NamedTuple):
     def run(self, environment: dict[str, str]) -> Told:
         """Runs it, with what it says going to the standard output."""
         found = [self.run_one(it, environment) for it in self.commands]
-        return Told(self.name, sum(it.ran for it in found), found[0].what, sum(it.wrong for it in found), [skip for it in found for skip in it.skips])
+        return Told(
+            self.name,
+            sum(it.ran for it in found),
+            found[0].what,
+            sum(it.wrong for it in found),
+            [skip for it in found for skip in it.skips],
+        )
 
     def run_one(self, words: list[str], environment: dict[str, str]) -> Told:
         lines = []
-        with subprocess.Popen(words, env=environment, stdin=subprocess.DEVNULL, stdout=subprocess.PIPE, stderr=subprocess.STDOUT, text=True, errors="replace") as run:
+        with subprocess.Popen(
+            words,
+            env=environment,
+            stdin=subprocess.DEVNULL,
+            stdout=subprocess.PIPE,
+            stderr=subprocess.STDOUT,
+            text=True,
+            errors="replace",
+        ) as run:
             assert run.stdout is not None
             for line in run.stdout:
                 print(line, end="", flush=True)
@@ -111,7 +127,10 @@ def lacking(told: Iterable[Told], without: Iterable[str]) -> Iterator[str]:
 
 def all_parts(top: str, python: str, folder: str, side_by_side: bool) -> list[Part]:
     """The parts that come before the gate; they may write into the folder."""
-    script = lambda name: [python, "-B", f"{top}/scripts/{name}"]  # pylint: disable=unnecessary-lambda-assignment
+
+    def script(name: str) -> list[str]:
+        return [python, "-B", f"{top}/scripts/{name}"]
+
     report = f"{folder}/tools.xml"
     spread = ["-n", str(len(os.sched_getaffinity(0)))] if side_by_side else []
     return [

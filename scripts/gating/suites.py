@@ -14,8 +14,14 @@ def run(name: str, module: ModuleType, needs: Iterable[str] = ()) -> int:
     if lacks := [it for it in needs if not shutil.which(it)]:
         print(f"{name}: no test can run: {', '.join(lacks)} is not installed", file=sys.stderr)
         return CANNOT
-    result = unittest.TextTestRunner(stream=io.StringIO(), verbosity=0).run(unittest.defaultTestLoader.loadTestsFromModule(module))
-    wrong = result.errors + result.failures + [(it, "it passed, and is marked as one that fails") for it in result.unexpectedSuccesses]
+    result = unittest.TextTestRunner(stream=io.StringIO(), verbosity=0).run(
+        unittest.defaultTestLoader.loadTestsFromModule(module)
+    )
+    wrong = (
+        result.errors
+        + result.failures
+        + [(it, "it passed, and is marked as one that fails") for it in result.unexpectedSuccesses]
+    )
     for test, text in wrong:
         print(f"{name}: {test}\n{text}", file=sys.stderr)
     for test, cause in result.skipped:

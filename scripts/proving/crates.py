@@ -6,17 +6,18 @@ import subprocess
 # The folders of a crate that its proof and its code are made from.
 PARTS = ("src", "specs", "proofs")
 
-# How long the check of a crate that was not measured is likely to take: so many processor seconds for its start, for each
-# library that it names, for a line of code, and for a `?`, behind which all that lives is let go of. Fitted to the crates
-# here; lines of proofs hardly count.
+# How long the check of a crate that was not measured is likely to take: so many processor seconds for its start, for
+# each library that it names, for a line of code, and for a `?`, behind which all that lives is let go of. Fitted to the
+# crates here; lines of proofs hardly count.
 OF_A_START = 6.1
 OF_A_LIBRARY = 1.7
 OF_A_LINE = 0.058
 OF_A_QUESTION_MARK = 2.7
 
-NO_KIT = """\
-there is no `rt` on the PATH: to prove the program, put the folder bin of the Rattle kit there. To prove nothing, take the
-program of a release of this commit: `./avrora --adopt FILE`, or AVRORA_PROGRAM=FILE for one call; docs/RELEASE.md says which"""
+NO_KIT = (
+    "there is no `rt` on the PATH: to prove the program, put the folder bin of the Rattle kit there. To prove nothing, take the "
+    "program of a release of this commit: `./avrora --adopt FILE`, or AVRORA_PROGRAM=FILE for one call (docs/RELEASE.md)"
+)
 
 
 class NotProved(Exception):
@@ -37,7 +38,9 @@ class Kit:
         self.folder = os.path.dirname(os.path.dirname(os.path.realpath(rt)))
         if not os.path.isfile(f"{self.folder}/KIT-ID"):
             # slower, and right wherever rt lies
-            self.folder = os.path.dirname(subprocess.run(["rt", "doc"], capture_output=True, text=True, check=False).stdout.strip())
+            self.folder = os.path.dirname(
+                subprocess.run(["rt", "doc"], capture_output=True, text=True, check=False).stdout.strip()
+            )
         try:
             with open(f"{self.folder}/KIT-ID", encoding="utf-8") as it:
                 self.identity = it.read().strip()

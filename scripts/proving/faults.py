@@ -1,11 +1,17 @@
-"""What is told of a crate that is not proved: file and line from the top of the repository, the function, and how to go on."""
+"""What is told of a crate that is not proved: file and line from the top of the repository, the function, and how to go
+on."""
 import re
 
 # What rattle says of what went well.
-WENT_WELL = re.compile(r"(statements|logic|crate|axioms|by-macro|built:|  +|logic=proved) ?|.*: (proved|assumed)$|note: (?!src/|\./)")
+WENT_WELL = re.compile(
+    r"(statements|logic|crate|axioms|by-macro|built:|  +|logic=proved) ?|.*: (proved|assumed)$|note: (?!src/|\./)"
+)
 
 # A place of which rattle says something, and a file of the crate anywhere in its lines.
-PLACE = re.compile(r"^(?P<note>note: )?(?:\./)?(?P<path>(?:src|specs|proofs)/[^:\s]+):(?P<line>\d+):(?P<column>\d+): (?P<what>.*)$", re.M)
+PLACE = re.compile(
+    r"^(?P<note>note: )?(?:\./)?(?P<path>(?:src|specs|proofs)/[^:\s]+):(?P<line>\d+):(?P<column>\d+): (?P<what>.*)$",
+    re.M,
+)
 PATH = re.compile(r"(?<![\w/.-])(?:\./)?((?:src|specs|proofs)/[\w/.+-]+\.(?:rt|antt)\b)")
 
 # What is not proved, and where a function of a source begins.
@@ -36,7 +42,9 @@ def places(name: str, top: str, said: str) -> list[str]:
     named, found = set(), []
     for it in PLACE.finditer(said):
         path = f"crates/{name}/{it['path']}"
-        function = function_at(lines_of(f"{top}/{path}"), int(it["line"]), bool(it["note"])) if path.endswith(".rt") else None
+        function = (
+            function_at(lines_of(f"{top}/{path}"), int(it["line"]), bool(it["note"])) if path.endswith(".rt") else None
+        )
         whole = next((one for one in unproved if one.rpartition("::")[2] == function), function)
         named.add(whole)
         of = f" in `{whole}`" if whole else ""
@@ -45,7 +53,8 @@ def places(name: str, top: str, said: str) -> list[str]:
 
 
 def told(name: str, top: str, said: str) -> list[str]:
-    """All that is told of a crate that is not proved, the faults first; then what the kit said, with paths from the top."""
+    """All that is told of a crate that is not proved, the faults first; then what the kit said, with paths from the
+    top."""
     first = places(name, top, said) or [f"crates/{name}: not proved"]
     go_on = f"avrora: to go on from there: scripts/seed.py . && cd crates/{name} && rt check"
     kept = (line for line in said.splitlines() if not WENT_WELL.match(line))

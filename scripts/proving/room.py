@@ -1,7 +1,8 @@
 """The folder that keeps what is proved: each crate's library, or the program, and of what it was made.
 
-A crate is kept while its sources, the kit, and the libraries below it are those that it was made from. What counts of a crate below
-is its library: where a change to it (a comment, a proof) leaves the library as it was, the crates above stay kept.
+A crate is kept while its sources, the kit, and the libraries below it are those that it was made from. What counts of a
+crate below is its library: where a change to it (a comment, a proof) leaves the library as it was, the crates above
+stay kept.
 """
 import contextlib
 import hashlib
@@ -86,7 +87,12 @@ class Room:
 
     def marks(self, crate):
         """What tells whether a source of a crate was changed, came or went."""
-        return [mark_of(it) for at, names in crate.folders() for it in (at, *(f"{at}/{name}" for name in names)) if it != crate.folder]
+        return [
+            mark_of(it)
+            for at, names in crate.folders()
+            for it in (at, *(f"{at}/{name}" for name in names))
+            if it != crate.folder
+        ]
 
     def record(self, crate):
         return read_record(f"{self.folder}/{crate.name}.sum")
