@@ -121,8 +121,10 @@ class Packages(Folder):
     def test_one_that_does_not_end(self):
         fake_kit.write(self.place / "bin/apt-get", "#!/bin/sh\nexec sleep 3600\n")
         with mock.patch.multiple(packages, UPDATE=0.2, INSTALL=0.2), self.assertRaises(packages.CannotHave):
-            self.set_up(program("one"))
+            self.set_up(program("one"), program("two"))
         self.assertIn("apt-get did not end in 0.2 s", self.told.getvalue())
+        # nor is each tried alone for as long once more
+        self.assertEqual(self.told.getvalue().count("did not end"), 2)
 
     def test_who_is_not_root(self):
         with self.assertRaises(packages.CannotHave) as caught:

@@ -4,6 +4,7 @@ import os
 import shutil
 import subprocess
 import sys
+import time
 from typing import Iterable, NamedTuple
 
 LIST = f"{os.path.dirname(os.path.realpath(__file__))}/packages.txt"
@@ -63,7 +64,7 @@ def is_here(package: Package) -> bool:
     return bool(shutil.which(package.shown_by)) if package.kind == "program" else os.path.exists(package.shown_by)
 
 
-def ended(words: list[str], seconds: int) -> str | None:
+def ended(words: list[str], seconds: float) -> str | None:
     """Why a command did not end well, if it did not; it asks nobody."""
     quiet = {**os.environ, "DEBIAN_FRONTEND": "noninteractive", "DEBCONF_NONINTERACTIVE_SEEN": "true"}
     try:
@@ -81,19 +82,23 @@ def ended(words: list[str], seconds: int) -> str | None:
     except OSError as fault:
         return f"{words[0]} cannot be run: {fault.strerror}"
     except subprocess.TimeoutExpired:
-        return f"{words[0]} did not end in {seconds} s"
+        return f"{words[0]} did not end in {seconds:.1f} s"
     said = done.stdout.strip().splitlines()[-3:]
     return "; ".join([f"{words[0]} ended with status {done.returncode}", *said]) if done.returncode else None
 
 
 def install(names: list[str]) -> list[str]:
-    """Installs Debian packages, each alone where all together are refused; what went wrong, a line each."""
+    """Installs Debian packages, each alone where all together are refused; what went wrong, a line each. All of it takes
+    no longer than UPDATE and INSTALL say.
+    """
     wrong = ended([*APT, "update"], UPDATE)
-    words = [*APT, "install", "--no-install-recommends"]
+    words, ends = [*APT, "install", "--no-install-recommends"], time.monotonic() + INSTALL
     together = ended([*words, *names], INSTALL)
     if together is None:
         return []
-    alone = (ended([*words, name], INSTALL) for name in names) if len(names) > 1 else [together]
+    alone = [together]
+    if len(names) > 1 and time.monotonic() < ends:
+        alone = [why for name in names if (why := ended([*words, name], max(0.0, ends - time.monotonic())))]
     return [it for it in [wrong, *alone] if it]
 
 
