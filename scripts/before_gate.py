@@ -8,6 +8,7 @@ Exit status: 0 all is well, 1 something is wrong, 2 bad words, 3 a test cannot r
 """
 import argparse
 import os
+import signal
 import subprocess
 import sys
 import tempfile
@@ -68,7 +69,13 @@ def run_parts(python: str, without: list[str]) -> tuple[list[parts.Told], list[s
     return told, wrong + [it.line() for it in told if it.wrong]
 
 
+def heed_interrupts() -> None:
+    """Has the tests be interrupted where they ask for it: a script that runs in the background is born to ignore that."""
+    signal.signal(signal.SIGINT, signal.default_int_handler)
+
+
 def main(words: list[str]) -> int:
+    heed_interrupts()
     parser = argparse.ArgumentParser(
         prog=".ci/run", description=__doc__, formatter_class=argparse.RawDescriptionHelpFormatter
     )

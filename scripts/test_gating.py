@@ -9,6 +9,7 @@ import io
 import os
 import re
 import shutil
+import signal
 import subprocess
 import sys
 import tempfile
@@ -365,6 +366,17 @@ class Run(Folder):
         self.assertEqual(ended, status, err)
         self.assertRegex("\n".join(lines) + err, said)
         self.assertNotIn("rt", ran)
+
+    def test_parts_heed_interrupts(self):
+        """Also where `.ci/run` was started in the background, by a shell that has such commands ignore them."""
+        ignored = "import signal\nassert signal.getsignal(signal.SIGINT) is not signal.SIG_IGN\n"
+        fake_kit.write(self.top / "scripts/check_docs.py", ignored + PART.format("check_docs"))
+        was = signal.signal(signal.SIGINT, signal.SIG_IGN)
+        try:
+            status, _, err, _ = self.run_all()
+        finally:
+            signal.signal(signal.SIGINT, was)
+        self.assertEqual(status, 0, err)
 
     def test_a_part_that_is_not_met(self):
         fake_kit.write(
