@@ -4,9 +4,10 @@ memory, and builds it. `./avrora` calls it before each command; where nothing ch
 
     prove.py PROGRAM ROOM
 
-leaves the program at ROOM/PROGRAM. What is proved of a crate is kept in ROOM too, until the kit changes, or a source of the
-crate or of one below it. Exit status: 0 the program is there, 1 a crate was not proved or built, 2 bad words, 128 and its number
-after a signal, which ends the checks too.
+leaves the program at ROOM/PROGRAM. What is proved of a crate is kept in ROOM too, until the kit changes, a source of the crate, or
+a library below it: a change that leaves the library of its crate as it was (a comment, a proof) ends there. A program that is
+not the one that was built here (emptied, cut off, replaced) is built again. Exit status: 0 the program is there, 1 a crate was not
+proved or built, 2 bad words, 128 and its number after a signal, which ends the checks too.
 
     prove.py --adopt FILE ROOM
 
@@ -18,7 +19,6 @@ crate that is proved. The gate, `rt ci`, proves them so too, and does more: it t
 contracts that no call can meet, tries the must-fail edits, and runs the programs as two compilers build them.
 """
 import fcntl
-import hashlib
 import os
 import re
 import shutil
@@ -31,21 +31,13 @@ TOP = os.path.dirname(os.path.realpath(__file__))
 
 sys.path.insert(0, f"{TOP}/scripts")
 
-import proved  # pylint: disable=wrong-import-position
-
-# The folders of a crate that its proof and its code are made from.
-PARTS = ("src", "specs", "proofs")
+import proved  # noqa: E402  pylint: disable=wrong-import-position
+from proving import crates as of_crates, faults  # noqa: E402  pylint: disable=wrong-import-position
+from proving.crates import Kit, NotProved, names_below  # noqa: E402  pylint: disable=wrong-import-position
+from proving.room import Room, adopted_mark, read_record  # noqa: E402  pylint: disable=wrong-import-position
 
 # How many processor seconds the check of each crate took when it was last measured, a line each; scripts/seconds.py writes it.
 SECONDS = f"{TOP}/bench/seconds.txt"
-
-# How long the check of a crate that was not measured is likely to take: so many processor seconds for its start, for each
-# library that it names, for a line of code, and for a `?`, behind which all that lives is let go of. Fitted to the crates
-# here; lines of proofs hardly count.
-OF_A_START = 6.1
-OF_A_LIBRARY = 1.7
-OF_A_LINE = 0.058
-OF_A_QUESTION_MARK = 2.7
 
 # The most memory that a check here was seen to take, in bytes.
 MEMORY_OF_A_CHECK = 2_500_000_000
@@ -56,16 +48,11 @@ MOST_COPIES = 4
 # The program that a release has.
 RELEASED = "avrora_program"
 
-# What rattle says of what went well.
-WENT_WELL = re.compile(r"(statements|logic|crate|axioms|by-macro|built:|  +|logic=proved) ?|.*: (proved|assumed)$|note: ")
+class KitThatProved:
+    """What is known of a kit that is not on the PATH any more, by what was proved with it."""
 
-
-class NotProved(Exception):
-    """Why the program is not there, with what the kit said of it."""
-
-    def __init__(self, why, said=""):
-        super().__init__(why)
-        self.said = said
+    def __init__(self, identity):
+        self.identity = identity
 
 
 class Signalled(BaseException):
@@ -76,143 +63,35 @@ class Signalled(BaseException):
         self.number = number
 
 
-class Kit:
-    """The Rattle kit: its folder, and the text that tells it from other kits."""
-
-    def __init__(self):
-        rt = shutil.which("rt")
-        if not rt:
-            raise NotProved("there is no `rt` on the PATH: this needs the Rattle kit")
-        self.folder = os.path.dirname(os.path.dirname(os.path.realpath(rt)))
-        if not os.path.isfile(f"{self.folder}/KIT-ID"):
-            # slower, and right wherever rt lies
-            self.folder = os.path.dirname(subprocess.run(["rt", "doc"], capture_output=True, text=True, check=True).stdout.strip())
-        with open(f"{self.folder}/KIT-ID", encoding="utf-8") as it:
-            self.identity = it.read()
-
-    def library(self, name):
-        return f"{self.folder}/rlibs/{name}.rlib"
-
-
-class Crate:
-    """A crate of the repository: a line of crates.txt."""
-
-    def __init__(self, line):
-        name, _, uses = line.partition(":")
-        self.name = name.strip()
-        self.uses = uses.split()
-        self.folder = f"{TOP}/crates/{self.name}"
-        self.is_program = os.path.isfile(f"{self.folder}/src/main.rt")
-
-    def sources(self):
-        """The paths of its files below its folder, in order."""
-        for part in PARTS:
-            for at, folders, names in os.walk(f"{self.folder}/{part}"):
-                folders.sort()
-                for name in sorted(names):
-                    if name.endswith((".rt", ".antt")):
-                        yield os.path.relpath(f"{at}/{name}", self.folder)
-
-    def text(self, source):
-        with open(f"{self.folder}/{source}", "rb") as it:
-            return it.read()
-
-    def likely_seconds(self):
-        """How many processor seconds its check is likely to take, by its sources."""
-        seconds = OF_A_START + OF_A_LIBRARY * len(self.uses)
-        for source in filter(lambda it: it.endswith(".rt"), self.sources()):
-            stripped = (line.strip() for line in self.text(source).splitlines())
-            for code in (line for line in stripped if line and not line.startswith(b"//")):
-                seconds += OF_A_LINE + OF_A_QUESTION_MARK * code.count(b"?")
-        return seconds
-
-
 def crates_below(program):
     """The program and the crates below it by name, each behind those that it uses."""
-    with open(f"{TOP}/crates.txt", encoding="utf-8") as it:
-        lines = [line.partition("#")[0] for line in it]
-    listed = {it.name: it for it in map(Crate, filter(str.strip, lines))}
-    found = {}
-
-    def visit(name):
-        if name in listed and name not in found:
-            for used in listed[name].uses:
-                visit(used)
-            found[name] = listed[name]
-
-    visit(program)
-    return found
+    return of_crates.crates_below(program, TOP)
 
 
-class Room:
-    """The folder that keeps what is proved: a crate's library or program, and the sum of all that it was made from."""
+def given(room, crate, copies):
+    """What rattle is given to check a crate, by so many copies of itself."""
+    kit = room.kit.folder
+    words = ["--crate-name", crate.name, f"src/{'main' if crate.is_program else 'lib'}.rt"]
+    for used in ["std", *crate.uses]:
+        words += ["--extern", f"{used}={room.made(room.crates[used]) if used in room.crates else room.kit.library(used)}"]
+    words += ["-L", f"dependency={kit}/rlibs", "-L", f"dependency={room.folder}"]
+    words += ["--antt-project", f"{kit}/rattle/logic/antt-project.json", "--logic-built", f"{kit}/logic_built"]
+    return [*words, "--links", f"{crate.name}=", "--jobs", str(copies)]
 
-    def __init__(self, folder, kit, crates):
-        self.folder, self.kit, self.crates = folder, kit, crates
-        self.sums = {}
-        for crate in crates.values():
-            self.sums[crate.name] = self.sum_of(crate)
 
-    def sum_of(self, crate):
-        made = hashlib.sha256(repr((self.kit.identity, crate.name, crate.uses)).encode())
-        for source in crate.sources():
-            made.update(repr((source, crate.text(source))).encode())
-        made.update(repr([self.sums[it] for it in crate.uses if it in self.sums]).encode())
-        return made.hexdigest()
+def check_words(room, crate, copies):
+    """The command that proves a crate and writes its library, or the object file of a program."""
+    kit = room.kit.folder
+    words = [f"{kit}/bin/rattle", "build", *given(room, crate, copies)]
+    if crate.is_program:
+        return [*words, "--toolchain", f"{kit}/toolchain", "--backend", "llvm", "-o", f"{room.made(crate)}.o"]
+    return [*words, "--statements", "-o", room.made(crate)]
 
-    def made(self, crate):
-        return f"{self.folder}/{crate.name}" + ("" if crate.is_program else ".rlib")
 
-    def log(self, crate):
-        return f"{self.folder}/{crate.name}.log"
-
-    def is_kept(self, crate):
-        try:
-            with open(f"{self.folder}/{crate.name}.sum", encoding="utf-8") as it:
-                return it.read() == self.sums[crate.name] and os.path.exists(self.made(crate))
-        except OSError:
-            return False
-
-    def clear(self, crate):
-        for path in (f"{self.folder}/{crate.name}.sum", adopted_mark(self.folder, crate.name), self.made(crate)):
-            if os.path.isdir(path):
-                shutil.rmtree(path)
-            elif os.path.lexists(path):
-                os.remove(path)
-
-    def keep(self, crate, seconds):
-        with open(f"{self.folder}/{crate.name}.seconds", "w", encoding="utf-8") as it:
-            it.write(f"{seconds:.0f}")
-        self.mark(crate)
-        os.remove(self.log(crate))
-
-    def mark(self, crate):
-        """Notes that its library or program is made from what stands here."""
-        with open(f"{self.folder}/{crate.name}.sum", "w", encoding="utf-8") as it:
-            it.write(self.sums[crate.name])
-
-    def given(self, crate, copies):
-        """What rattle is given to check a crate, by so many copies of itself."""
-        kit = self.kit.folder
-        words = ["--crate-name", crate.name, f"src/{'main' if crate.is_program else 'lib'}.rt"]
-        for used in ["std", *crate.uses]:
-            words += ["--extern", f"{used}={self.made(self.crates[used]) if used in self.crates else self.kit.library(used)}"]
-        words += ["-L", f"dependency={kit}/rlibs", "-L", f"dependency={self.folder}"]
-        words += ["--antt-project", f"{kit}/rattle/logic/antt-project.json", "--logic-built", f"{kit}/logic_built"]
-        return [*words, "--links", f"{crate.name}=", "--jobs", str(copies)]
-
-    def check_words(self, crate, copies):
-        """The command that proves a crate and writes its library, or the object file of a program."""
-        kit = self.kit.folder
-        words = [f"{kit}/bin/rattle", "build", *self.given(crate, copies)]
-        if crate.is_program:
-            return [*words, "--toolchain", f"{kit}/toolchain", "--backend", "llvm", "-o", f"{self.made(crate)}.o"]
-        return [*words, "--statements", "-o", self.made(crate)]
-
-    def link_words(self, crate):
-        kit = self.kit.folder
-        words = [f"{kit}/bin/rattle-link", "--target", "x86_64-unknown-linux-gnu", "--toolchain", f"{kit}/toolchain"]
-        return [*words, "-o", self.made(crate), f"{self.made(crate)}.o", f"{kit}/c/libos_c.a", f"{kit}/c/liblibc_c.a"]
+def link_words(room, crate):
+    kit = room.kit.folder
+    words = [f"{kit}/bin/rattle-link", "--target", "x86_64-unknown-linux-gnu", "--toolchain", f"{kit}/toolchain"]
+    return [*words, "-o", room.made(crate), f"{room.made(crate)}.o", f"{kit}/c/libos_c.a", f"{kit}/c/liblibc_c.a"]
 
 
 class Check:
@@ -223,8 +102,10 @@ class Check:
         self.began = time.monotonic()
         self.seconds = 0.0
         room.clear(crate)
+        self.marks = room.marks(crate)
+        room.look_again(crate)
         with open(room.log(crate), "wb") as said:
-            self.process = self.start(room.check_words(crate, copies), said)
+            self.process = self.start(check_words(room, crate, copies), said)
 
     def start(self, words, said):
         # a process group of its own, so that its copies end with it
@@ -252,11 +133,15 @@ class Check:
         with open(self.room.log(self.crate), "a+", encoding="utf-8", errors="replace") as said:
             well = self.process.returncode == 0
             if well and self.crate.is_program:
-                well = self.start(self.room.link_words(self.crate), said).wait() == 0
+                well = self.start(link_words(self.room, self.crate), said).wait() == 0
             said.seek(0)
             text = said.read()
+        name = self.crate.name
         if not well or not re.search(r"^logic=proved ", text, re.M):
-            raise NotProved(f"{self.crate.name} was not proved; {self.room.log(self.crate)} has all that was said of it", text)
+            told = faults.told(name, TOP, text)
+            raise NotProved(f"{name} was not proved; {self.room.log(self.crate)} has all that was said of it", "\n".join(told))
+        if self.room.marks(self.crate) != self.marks:
+            raise NotProved(f"crates/{name}: a source was changed while it was proved, so nothing of it is kept: do the same once more")
         self.room.keep(self.crate, self.seconds)
 
 
@@ -352,17 +237,29 @@ class Progress:
         ends = "\r" if is_looked_at and undone else "\n"
         print(f"avrora: {done} of {self.of_all} crates are proved{name}{left}".ljust(76 if is_looked_at else 0), end=ends, file=sys.stderr, flush=True)
 
+    def tell_as_before(self, count):
+        """Tells that crates needed not be proved again."""
+        said = f"avrora: {self.of_all} of {self.of_all} crates are proved, {count} of them over the same libraries as before"
+        print(said.ljust(76 if sys.stderr.isatty() else 0), file=sys.stderr, flush=True)
+
 
 def prove(room, names):
-    """Proves each of these crates that is not kept, once those below it are; first what holds up the most."""
+    """Proves each of these crates that is not kept, once those below it are; first what holds up the most. One over libraries that
+    came out as they were is kept."""
     crates, order, lanes = room.crates, Order(room.crates), lanes_here()
     undone = {it for it in names if not room.is_kept(crates[it])}
     waiting = sorted(undone, key=lambda it: -order.ways[it])
-    running = []
+    running, kept = [], 0
     progress = Progress(order, undone, len(names), lanes)
     try:
         while undone:
-            ready = [it for it in waiting if not undone.intersection(crates[it].uses)]
+            ready = [it for it in waiting if not undone.intersection(names_below(crates[it], crates))]
+            if as_before := [it for it in ready if room.is_kept(crates[it])]:
+                # what was proved below them gave the libraries that they were made over
+                waiting = [it for it in waiting if it not in as_before]
+                undone.difference_update(as_before)
+                kept += len(as_before)
+                continue
             for name in ready[: lanes - len(running)]:
                 waiting.remove(name)
                 running.append(Check(room, crates[name], order.copies(crates[name], undone, running, lanes)))
@@ -373,6 +270,8 @@ def prove(room, names):
                 check.finish()
                 undone.remove(check.crate.name)
                 progress.tell(undone, running, check)
+        if kept:
+            progress.tell_as_before(kept)
     finally:
         for check in running:
             check.kill()
@@ -388,11 +287,6 @@ def raise_signalled(number, _frame):
     raise Signalled(number)
 
 
-def adopted_mark(folder, program):
-    """Where the PROVED of a program lies that was not proved here, but adopted."""
-    return f"{folder}/{program}.adopted"
-
-
 def is_adopted(folder, program):
     """Whether the program was adopted, and still is one of this commit; where it no longer is, that is said."""
     if not os.path.exists(adopted_mark(folder, program)):
@@ -405,13 +299,55 @@ def is_adopted(folder, program):
     return True
 
 
-def is_proved_here(folder):
-    """Whether the released program lies there because it was proved here, as far as a kit is there to tell."""
+def kit_for(folder, program):
+    """The kit on the PATH; where there is none, what is known of the one that proved the program there."""
     try:
-        room = Room(folder, Kit(), crates_below(RELEASED))
+        return Kit()
+    except NotProved:
+        record = read_record(f"{folder}/{program}.sum")
+        if record is None or shutil.which("rt"):
+            raise
+        return KitThatProved(record.kit)
+
+
+def is_proved_here(folder):
+    """Whether the released program lies there because it was proved here of these sources."""
+    try:
+        room = Room(folder, kit_for(folder, RELEASED), crates_below(RELEASED))
     except NotProved:
         return False
     return room.is_kept(room.crates[RELEASED])
+
+
+def is_there(room, program):
+    """Whether the program lies there, proved and built of what stands here; then the next call sees that by less."""
+    crate = room.crates[program]
+    if room.is_kept(crate):
+        kit_id = [f"{room.kit.folder}/KIT-ID"] if isinstance(room.kit, Kit) else []
+        room.note_seen([f"{TOP}/crates.txt", *kit_id])
+        return True
+    if room.is_spoilt(crate):
+        print(f"avrora: {room.made(crate)} is not what was built here: it was emptied, cut off or replaced; it is built again", file=sys.stderr)
+    return False
+
+
+def make(program, folder):
+    """Has the program lie in the folder."""
+    room = Room(folder, kit_for(folder, program), crates_below(program), program)
+    if is_there(room, program):
+        return
+    if not isinstance(room.kit, Kit):
+        raise NotProved(of_crates.NO_KIT)
+    os.makedirs(folder, exist_ok=True)
+    with open(f"{folder}/lock", "w", encoding="utf-8") as lock:
+        # Two calls at once: the second one waits, and finds the program.
+        fcntl.flock(lock, fcntl.LOCK_EX)
+        room = Room(folder, room.kit, room.crates, program)
+        if not is_there(room, program):
+            print("avrora: proving and building the program; the first time takes minutes", file=sys.stderr)
+            prove(room, list(room.crates))
+            is_there(room, program)
+            print(f"avrora: the program lies at {room.made(room.crates[program])}", file=sys.stderr)
 
 
 def adopt(program, folder):
@@ -445,23 +381,12 @@ def main(words):
     if len(words) != 2:
         print("usage: prove.py PROGRAM ROOM, or prove.py --adopt FILE ROOM", file=sys.stderr)
         return 2
-    program, folder = words
+    program, folder = words[0], os.path.realpath(words[1])
     try:
-        if is_adopted(os.path.realpath(folder), program):
-            return 0
-        room = Room(os.path.realpath(folder), Kit(), crates_below(program))
-        if room.is_kept(room.crates[program]):
-            return 0
-        os.makedirs(folder, exist_ok=True)
-        with open(f"{folder}/lock", "w", encoding="utf-8") as lock:
-            # Two calls at once: the second one waits, and finds the program.
-            fcntl.flock(lock, fcntl.LOCK_EX)
-            if not room.is_kept(room.crates[program]):
-                print("avrora: proving and building the program; the first time takes minutes", file=sys.stderr)
-                prove(room, list(room.crates))
-                print(f"avrora: the program lies at {room.made(room.crates[program])}", file=sys.stderr)
+        if not is_adopted(folder, program):
+            make(program, folder)
     except NotProved as it:
-        for line in [*filter(lambda said: not WENT_WELL.match(said), it.said.splitlines()), f"avrora: {it}"]:
+        for line in [*it.said.splitlines(), f"avrora: {it}"]:
             print(line, file=sys.stderr)
         return 1
     except Signalled as it:
@@ -470,4 +395,6 @@ def main(words):
 
 
 if __name__ == "__main__":
+    if sys.argv[1:2] in (["--help"], ["-h"]):
+        sys.exit(print(__doc__))
     sys.exit(main(sys.argv[1:]))

@@ -750,4 +750,6 @@ LOG_WORLDS = 60
 RECORD_WORLDS = 160
 
 if __name__ == "__main__":
+    if sys.argv[1:2] in (["--help"], ["-h"]):
+        sys.exit(print(__doc__))
     main(sys.argv[1])

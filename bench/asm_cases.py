@@ -1,6 +1,9 @@
 #!/usr/bin/env python3
 """Writes crates/command_facts/data/rows.txt, aliases.txt and targets.txt: sources in assembly, with the words that avr-as of
-binutils gives for them. Wants avr-as and avr-objcopy (Debian: binutils-avr)."""
+binutils gives for them. Wants avr-as and avr-objcopy (Debian: binutils-avr).
+
+    bench/asm_cases.py
+"""
 import os, random, subprocess, sys, tempfile
 
 AS = ["avr-as", "-mmcu=atmega128"]
@@ -134,6 +137,8 @@ def head(text):
 
 
 if __name__ == "__main__":
+    if sys.argv[1:2] in (["--help"], ["-h"]):
+        sys.exit(print(__doc__))
     folder = os.path.join(os.path.dirname(os.path.abspath(__file__)), "..", "crates", "command_facts", "data")
     for name, text, made in (("rows", "each row of the opcode table", rows), ("aliases", "each alias", aliases), ("targets", "labels", targets)):
         with open(os.path.join(folder, name + ".txt"), "w") as out:

@@ -2,6 +2,7 @@
 # What a call on the clock words costs on one thread: bench/clocks.sh [COUNT] (100,000,000 calls where absent). For each
 # of the three calls the program makes that many in a loop, five times; the fastest run's processor time is printed for
 # one call, the loop around it included.
+. "$(dirname "$0")/help.sh"
 set -eu
 top=$(cd "$(dirname "$0")/.." && pwd)
 count=${1:-100000000}

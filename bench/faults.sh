@@ -3,6 +3,7 @@
 # program with memory refused at each allocation in turn, with outputs that are full or closed, with files that are none, and
 # with texts of the greatest length and one byte more, and compares status, error stream and output with docs/FAULTS.md. The gate
 # cannot hold this: it wants devices, pipes and a C compiler. It prints a line a check; its exit status is 1 where one failed.
+. "$(dirname "$0")/help.sh"
 set -u
 top=$(cd "$(dirname "$0")/.." && pwd)
 program=${1:-$top/crates/avrora_program/out/rlib/avrora_program}

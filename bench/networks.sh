@@ -3,6 +3,7 @@
 # absent). It draws up scenarios over the images of bench/ and runs each five times with `run --plain`; of the fastest run
 # it prints the processor time in user mode, node cycles in a second of it, rows in a second of it, and KiB at most. The
 # first line is `node` over as many cycles as each network's nodes have together.
+. "$(dirname "$0")/help.sh"
 set -eu
 . "$(dirname "$0")/program.sh"
 cp "$top"/bench/ring.hex "$top"/bench/sleep.hex "$top"/bench/registers.hex "$work"

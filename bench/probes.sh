@@ -6,6 +6,7 @@
 #
 # Counts hardly vary from run to run or from machine to machine. The most is a tenth above what was counted last; where a change
 # makes a count fall, lower its line.
+. "$(dirname "$0")/help.sh"
 set -eu
 if ! command -v valgrind >/dev/null; then
     echo "bench/probes.sh: skipped, valgrind is not installed"

@@ -3,6 +3,7 @@
 # where absent). As nobody, with room for 1, 2, 3, 5, 9 and 64 processes and threads in all, with little stack, and with an
 # address space for few stacks of threads, each run has to write what a run on one thread writes; in a small address space it may
 # end for want of memory, with status 6 and a prefix of that. It takes root, for setpriv.
+. "$(dirname "$0")/help.sh"
 set -eu
 . "$(dirname "$0")/program.sh"
 cp "$program" "$work/program"

@@ -5,6 +5,7 @@
 # is; where valgrind is installed, the same by host instructions, where `resume` is taken less what it takes to read the state
 # and to run one cycle on. Then what a state of 64 nodes takes to write and to read, what large and hostile texts take, and the
 # memory of long runs.
+. "$(dirname "$0")/help.sh"
 set -eu
 epoch=262144
 . "$(dirname "$0")/program.sh"

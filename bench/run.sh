@@ -6,6 +6,7 @@
 # sleep, at which simavr idles by the clock, runs on simavr behind each four of those, with the ratio of the fastest. Where
 # valgrind is installed, host instructions per AVR instruction follow, counted between 100,000 and 300,000 cycles; they hardly
 # vary.
+. "$(dirname "$0")/help.sh"
 set -eu
 top=$(cd "$(dirname "$0")/.." && pwd)
 cycles=${1:-50000000}

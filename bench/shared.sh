@@ -3,6 +3,7 @@
 # 1,000 bytes on a new air, raising its clock past each, and node 1 takes 1,000 samples of them: first on one thread, one node
 # after the other, then on two threads at once. The fastest of five by the clock on the wall, with what a run of no rounds
 # takes taken off; the opening of each air is part of its posts.
+. "$(dirname "$0")/help.sh"
 set -eu
 top=$(cd "$(dirname "$0")/.." && pwd)
 rounds=${1:-2000}

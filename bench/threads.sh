@@ -5,6 +5,7 @@
 # prints the medians of the time on the wall, how many times as fast the run by threads is, how many times as much the yardstick
 # gets done in a time, and what part of it the threads get. With strace, it counts the calls by which threads wait and wake, and the
 # samples. The traces are compared.
+. "$(dirname "$0")/help.sh"
 set -eu
 . "$(dirname "$0")/program.sh"
 cp "$top"/bench/ring.hex "$top"/bench/mixed.hex "$top"/bench/sleep.hex "$top"/bench/network/net.hex "$top"/bench/make0/* "$top"/examples/flood.hex "$work"

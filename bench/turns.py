@@ -45,4 +45,6 @@ def main(words):
 
 
 if __name__ == "__main__":
+    if sys.argv[1:2] in (["--help"], ["-h"]):
+        sys.exit(print(__doc__))
     main(sys.argv[1:])

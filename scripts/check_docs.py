@@ -5,7 +5,7 @@ lines with what they print.
     scripts/check_docs.py                  sizes, links, names and maps; it needs nothing but the repository
     scripts/check_docs.py --run [PROGRAM]  also runs the commands, with PROGRAM or the one that `./avrora` built
     scripts/check_docs.py --counts         first puts the counts of stored cases right
-    scripts/check_docs.py --index          first writes the indexes of lemmas, proofs/Lib.antt of each crate
+    scripts/check_docs.py --index          first writes the indexes: of lemmas, proofs/Lib.antt of each crate, and of scripts, docs/SCRIPTS.md
 
 A command is a line `$ COMMAND` of a block that begins with ```console. It runs in a copy of the repository, in its top folder or
 where the last `$ cd DIR` of the document led, and prints first the lines that stand below it; a line `...` stands for any lines,
@@ -26,8 +26,11 @@ import sys
 import tempfile
 from pathlib import Path
 
+import helps
 import lemmas
+import trials
 from doc_maps import Repository, wrong_maps
+from gating import packages
 
 TOP = Path(__file__).resolve().parent.parent
 
@@ -260,6 +263,11 @@ def missing(command, shell):
     return None
 
 
+def package_of(program):
+    """The Debian package of a program, as far as the list of the tests' packages tells."""
+    return next((it.name for it in packages.listed() if it.kind == "program" and it.shown_by == program), program)
+
+
 def agrees(lines, wanted):
     """Whether the lines begin as wanted; `...` stands for any lines."""
     if not wanted:
@@ -291,13 +299,13 @@ def run_commands(path, text, shell, skip=print):
                 place = os.path.join(place, it[1])
                 continue
             if lacks := missing(command, shell):
-                skip(f"{where}: skipped, {lacks} is not installed: {command}")
+                skip(f"{where}: skipped, {command} needs {lacks} (Debian's {package_of(lacks)})")
                 continue
             ran = shell.run(command, place)
             lines = ran.stdout.decode(errors="replace").splitlines()
             lacks = LACKING.search("\n".join(lines))
             if lacks and ran.returncode in LACKS:
-                skip(f"{where}: skipped, {lacks[1]} is not installed: {command}")
+                skip(f"{where}: skipped, {command} needs a package (Debian's {lacks[1]})")
             elif not agrees(lines, wanted) or (not wanted and ran.returncode):
                 yield "\n".join([f"{where}: {command}", "  is to print first", *(f"    {it}" for it in wanted), f"  and printed, with status {ran.returncode}", *(f"    {it}" for it in lines[: len(wanted) + 2])])
 
@@ -315,23 +323,26 @@ def main():
     parser = argparse.ArgumentParser(description=__doc__, formatter_class=argparse.RawDescriptionHelpFormatter)
     parser.add_argument("--run", nargs="?", const=str(TOP / "crates/avrora_program/out/rlib/avrora_program"), metavar="PROGRAM", help="run the commands too")
     parser.add_argument("--counts", action="store_true", help="put the counts of stored cases right")
-    parser.add_argument("--index", action="store_true", help="write the indexes of lemmas")
+    parser.add_argument("--index", action="store_true", help="write the indexes of lemmas and of scripts")
     given = parser.parse_args()
     program = given.run
     if program and not os.access(program, os.X_OK):
         parser.error(f"there is no program {program}; ./avrora builds it")
     if cause := why_no_files():
-        print(f"check_docs: skipped: {cause}")
-        return 0
+        print(f"check_docs: nothing can be checked: {cause}", file=sys.stderr)
+        return 3
     if given.counts:
         for path, text in documents().items():
             (TOP / path).write_text(COUNT.sub(right_count, text), encoding="utf-8")
     if given.index:
         lemmas.write(Repository(TOP, tracked()))
+        helps.write(TOP)
     texts = documents()
     wrong = [it for path, text in texts.items() for check in (sizes, links, names, counts) for it in check(path, text)]
+    wrong += [it for path, text in texts.items() for it in trials.wrong(TOP, path, text)]
     wrong += crates(texts)
     wrong += wrong_maps(TOP, tracked())
+    wrong += helps.wrong(TOP)
     if program:
         shell = Here(os.path.abspath(program))
         wrong += [it for path in WITH_COMMANDS if path in texts for it in run_commands(path, texts[path], shell)]

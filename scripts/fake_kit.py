@@ -1,7 +1,8 @@
 """A kit that proves nothing, and three crates that say nothing, for tests of what goes on around the proving."""
 import os
 
-# It takes FAKE_SECONDS for a crate, in a copy of itself, and proves all but the crate FAKE_FAULT.
+# It takes FAKE_SECONDS for a crate, in a copy of itself, and proves all but the crate FAKE_FAULT. Its library is the code without
+# its comments, and it notes each crate that it proved in the file FAKE_PROVED.
 RATTLE = """#!/usr/bin/env bash
 while (($#)); do
     case $1 in --crate-name) name=$2 ;; -o) out=$2 ;; esac
@@ -9,9 +10,16 @@ while (($#)); do
 done
 (exec -a "$0-copy" sleep "${FAKE_SECONDS:-0}") &
 wait $!
-if [[ $name == "${FAKE_FAULT:-}" ]]; then echo 'error: an open goal'; exit 1; fi
+if [[ $name == "${FAKE_FAULT:-}" ]]; then
+    echo 'note: src/lib.rt:1:1: it is not proved that what the function ensures holds'
+    echo "fn $name::half: no proof: expected answers in ./proofs/half/Answers.antt"
+    echo "fn $name::whole: proved"
+    echo 'error: an open goal'
+    exit 1
+fi
 echo 'logic=proved functions=1'
-: >"$out"
+grep -v '^//' "$PWD"/src/*.rt >"$out"
+echo "$name" >>"$FAKE_PROVED"
 """
 
 # The program that it links: it writes its words and its folder, or refuses an image, a scenario, or its words.
@@ -23,6 +31,7 @@ case $1 in
     refused) echo 'avrora: a.hex: image refused: NoEnd' >&2; exit 5 ;;
     selflink) echo 'avrora: a.toml: scenario refused: SelfLink' >&2; exit 4 ;;
     bad) echo 'avrora: bad command line' >&2; exit 2 ;;
+    say) [[ -z $3 ]] || echo "$3" >&2; exit "$2" ;;
     long) exec -a "$0-long" sleep 3600 ;;
     *) echo "$* in ${PWD##*/}"; cat ;;
 esac
@@ -94,5 +103,6 @@ def write_crates(top):
 def environment(kit=None):
     """The environment of a command that finds the kit, or else finds no other one, and is lent no program."""
     kept = {key: value for key, value in os.environ.items() if key not in ("AVRORA", "AVRORA_PROGRAM")}
+    kept.setdefault("FAKE_PROVED", os.devnull)
     path = [it for it in os.environ.get("PATH", os.defpath).split(":") if kit or not os.path.exists(f"{it}/rt")]
     return {**kept, "PATH": ":".join([f"{kit}/bin", *path] if kit else path)}

@@ -74,7 +74,10 @@ def taken_by(prove, folder):
 
 
 def main(words):
-    if len(words) > 1 or words[:1] == ["--help"]:
+    if words[:1] in (["--help"], ["-h"]):
+        print(__doc__)
+        return 0
+    if len(words) > 1 or words[:1] and words[0].startswith("-"):
         print(__doc__, file=sys.stderr)
         return 2
     prove = seed.module_at(f"{TOP}/prove.py", "prove")

@@ -9,7 +9,7 @@
 # are the launcher's alone.
 
 # The exit statuses that a launcher gives or explains; the program's own are below NOT_THERE.
-readonly BAD_WORDS=2 CANNOT_READ=3 BAD_SCENARIO=4 BAD_IMAGE=5 BAD_SOURCE=7 BAD_STATE=8 NOT_THERE=10
+readonly NOT_WRITTEN=1 BAD_WORDS=2 CANNOT_READ=3 NO_MEMORY=6 NO_WORDS=9 NOT_THERE=10
 
 # What the program takes for granted of a processor, by the names of /proc/cpuinfo: x86-64-v2 (pni is SSE3).
 readonly NEEDED_OF_PROCESSOR='cx16 lahf_lm pni popcnt sse4_1 sse4_2 ssse3'
@@ -70,20 +70,36 @@ run() {
     return "$status"
 }
 
-# The row of FORMATS.md for the cause in the line that the program wrote, and what says where a scenario is at fault:
-# explain STATUS LINE
+# What a line that the program wrote means, with the status that it ended with: explain STATUS LINE
 explain() {
-    local part where=
     case $1 in
-        "$BAD_SCENARIO") part=Scenarios where='; avrora-tools why FILE says where' ;;
-        "$BAD_IMAGE") part=Images ;;
-        "$BAD_STATE") part=States ;;
-        *) part=Sources ;;
+        "$NOT_WRITTEN") echo '(a full disk, a closed descriptor, or a pipe that nobody reads; what stands there is the beginning of what is due; docs/FAULTS.md)' >&2 ;;
+        "$CANNOT_READ") echo '(it is not there, it is a folder, or you may not read it; images are looked for in the folder where avrora runs, see -C; docs/FAULTS.md)' >&2 ;;
+        "$NO_MEMORY") echo '(the system refused memory; what stands on the output is the beginning of what is due; docs/FAULTS.md)' >&2 ;;
+        "$NO_WORDS") echo 'avrora: a word of the command line is no UTF-8, or memory is refused (docs/FAULTS.md)' >&2 ;;
+        *) explain_refusal "$2" ;;
     esac
-    [[ $2 =~ refused:\ ([A-Za-z]+) && -r $formats ]] || return 0
-    awk -v part="## $part" -v where="$where" -v cause="\`${BASH_REMATCH[1]}\`" -F ' *[|] *' '
+}
+
+# The row of FORMATS.md for the cause in a line, and what says where a scenario is at fault. A fault of a whole file has a
+# table of its own, and no line of the file: explain_refusal LINE
+explain_refusal() {
+    local part where= whole=
+    [[ $1 =~ :\ (scenario|image|source|state|moves)\ refused:\ ([A-Za-z]+)(,\ line\ [0-9]+)?$ && -r $formats ]] || return 0
+    case ${BASH_REMATCH[1]} in
+        scenario) part=Scenarios where='; avrora-tools why FILE says where' ;;
+        image) part=Images ;;
+        source) part=Sources ;;
+        state) part=States ;;
+        moves) part=Moves ;;
+    esac
+    [[ -n ${BASH_REMATCH[3]} ]] || whole=yes
+    awk -v part="## $part" -v where="$where" -v cause="${BASH_REMATCH[2]}" -v whole="$whole" -F ' *[|] *' '
         /^## / { within = index($0, part) == 1 }
-        within && index($2, cause) { gsub("`", "", $3); print "(" substr(cause, 2, length(cause) - 2) ": " $3 "; docs/FORMATS.md" where ")"; exit }
+        !/^[|]/ { of_whole = "" }
+        /^[|] Fault of the whole file/ { of_whole = "yes" }
+        within && index($2, "`" cause "`") && (found == "" || of_whole == whole) { gsub("`", "", $3); found = $3 }
+        END { if (found != "") print "(" cause ": " found "; docs/FORMATS.md" where ")" }
     ' "$formats" >&2
 }
 
@@ -119,10 +135,13 @@ require_processor() {
 
 # Does what the words ask, and ends with the status of it: launch WORD ..
 launch() {
-    local program said status line
+    local program said status line folder
     [[ -e /dev/fd/0 ]] || exec </dev/null
     while [[ ${1-} == -C && $# -ge 2 ]]; do
-        if ! cd -- "$2" 2>/dev/null; then
+        # a path from here begins with ./, so that neither CDPATH nor `-` leads elsewhere
+        folder=$2
+        [[ $folder == /* ]] || folder=./$folder
+        if ! cd -- "$folder" 2>/dev/null; then
             echo "avrora: cannot read $2" >&2
             exit "$CANNOT_READ"
         fi
@@ -148,9 +167,8 @@ launch() {
         status=$?
         cat "$said" >&2
         line=$(tail -n 1 "$said" | tr -d '\0')
-        case $status in
-            "$BAD_SCENARIO" | "$BAD_IMAGE" | "$BAD_SOURCE" | "$BAD_STATE") explain "$status" "$line" ;;
-        esac
+        # of bad words the usage tells, and a program that ended by a signal wrote no cause
+        ((status == 0 || status == BAD_WORDS || status >= NOT_THERE)) || explain "$status" "$line"
     else
         run "$program" "$@"
         status=$?

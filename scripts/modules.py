@@ -42,7 +42,7 @@ def main(words):
     crate = room.crates[name]
     prove.prove(room, [it for it in room.crates if it != name])
     with tempfile.TemporaryDirectory() as kept:
-        words = [f"{room.kit.folder}/bin/rattle", "check", *room.given(crate, 1)]
+        words = [f"{room.kit.folder}/bin/rattle", "check", *prove.given(room, crate, 1)]
         words += ["--incremental", kept, "--stage-times", f"{kept}/stages"]
         began, used = time.time(), os.times()
         ran = subprocess.run(words, cwd=crate.folder, stdin=subprocess.DEVNULL, capture_output=True, text=True, errors="replace", check=False)
@@ -61,4 +61,6 @@ def main(words):
 
 
 if __name__ == "__main__":
+    if sys.argv[1:2] in (["--help"], ["-h"]):
+        sys.exit(print(__doc__))
     sys.exit(main(sys.argv[1:]))

@@ -5,9 +5,9 @@ prove, what a signal ends, and what stands below the program's line on a termina
     scripts/test_first_run.py
 """
 import contextlib
-import io
 import os
 import pty
+import re
 import shutil
 import signal
 import subprocess
@@ -16,19 +16,33 @@ import tempfile
 import time
 import unittest
 from pathlib import Path
+from unittest import mock
 
 import fake_kit
+from gating import suites
+from proving import crates, room
 
 TOP = Path(__file__).resolve().parent.parent
 
 # Seconds that nothing takes but what hangs: a busy machine is no failure.
 LONG = 600
 
+# The signals that end `./avrora` and all that it started.
+SIGNALS = (signal.SIGTERM, signal.SIGINT, signal.SIGHUP)
+
 # What `./avrora` is a script for.
 NEEDS = ("bash", "awk", "python3")
 
 
-class FirstRun(unittest.TestCase):
+def heed_signals():
+    """Has a process heed signals which one that runs in the background is born to ignore."""
+    for number in SIGNALS:
+        signal.signal(number, signal.SIG_DFL)
+
+
+class OfARepository(unittest.TestCase):
+    """Has a repository of its own, in which nothing is proved yet."""
+
     def setUp(self):
         self.place = tempfile.TemporaryDirectory()
         self.addCleanup(self.place.cleanup)
@@ -37,26 +51,33 @@ class FirstRun(unittest.TestCase):
         kit = self.top.parent / "kit"
         fake_kit.write_kit(kit)
         fake_kit.write_crates(self.top)
+        # a function, as the place of a fault names it
+        self.write("crates/middle/src/lib.rt", "fn half() {}\n")
         for folder in ("docs", "scripts"):
             (self.top / folder).mkdir()
         for path in ("avrora", "prove.py", "docs/FORMATS.md", "scripts/launcher.sh", "scripts/proved.py"):
             shutil.copy2(TOP / path, self.top / path)
+        shutil.copytree(TOP / "scripts/proving", self.top / "scripts/proving", ignore=shutil.ignore_patterns("__pycache__"))
         self.environment = fake_kit.environment(kit)
         self.started = []
+
+    def write(self, path, text):
+        (self.top / path).write_text(text, encoding="utf-8")
 
     def end_all(self):
         """Ends what a test that failed left behind."""
         for run in self.started:
             run.kill()
-            run.communicate()
         for pid, _ in self.left():
             with contextlib.suppress(ProcessLookupError):
                 os.kill(int(pid), signal.SIGKILL)
+        for run in self.started:
+            run.communicate()
 
     def start(self, *words, **more):
         environment = {**self.environment, **more.pop("fake", {})}
         given = {"stdin": subprocess.DEVNULL, "stdout": subprocess.PIPE, "stderr": subprocess.PIPE, "text": True, **more}
-        run = subprocess.Popen([str(self.top / "avrora"), *words], cwd=self.top, env=environment, **given)
+        run = subprocess.Popen([str(self.top / "avrora"), *words], cwd=self.top, env=environment, preexec_fn=heed_signals, **given)
         self.started.append(run)
         return run
 
@@ -74,7 +95,7 @@ class FirstRun(unittest.TestCase):
                 words = Path(f"/proc/{pid}/cmdline").read_bytes().decode(errors="replace")
             except OSError:
                 continue
-            if any(it in words for it in (f"{self.top.parent}/kit/bin/rattle", f"{self.top}/crates")):
+            if any(it in words for it in (f"{self.top.parent}/kit/bin/rattle", f"{self.top}/crates", f"{self.top}/prove.py")):
                 found.append((pid, words))
         return found
 
@@ -86,6 +107,8 @@ class FirstRun(unittest.TestCase):
             time.sleep(0.05)
         self.fail("it did not come to that")
 
+
+class FirstRun(OfARepository):
     def test_no_words_prove_nothing(self):
         for words in ([], ["-C"]):
             status, out, err = self.ended(*words)
@@ -110,14 +133,33 @@ class FirstRun(unittest.TestCase):
         self.assertEqual(self.ended("-C", "crates", "-C", "low", "run"), (0, "run in low\n", ""))
         self.assertEqual(self.ended("-C", "nowhere", "run"), (3, "", "avrora: cannot read nowhere\n"))
 
+    def test_no_other_folder(self):
+        """Neither CDPATH nor `-` leads elsewhere, and no path is written before the trace."""
+        self.ended("run")
+        for folder in ("elsewhere/docs", "-"):
+            (self.top / folder).mkdir(parents=True)
+        lead = {"CDPATH": str(self.top / "elsewhere"), "OLDPWD": str(self.top / "docs")}
+        self.assertEqual(self.ended("-C", "docs", "run", "x", **lead), (0, "run x in docs\n", ""))
+        (self.top / "docs").rename(self.top / "papers")
+        self.assertEqual(self.ended("-C", "docs", "run", "x", **lead), (3, "", "avrora: cannot read docs\n"))
+        self.assertEqual(self.ended("-C", "-", "run", "x", **lead), (0, "run x in -\n", ""))
+
     def test_a_crate_that_is_not_proved(self):
+        """What is told begins with the place from the top and the function, and how to go on."""
         status, out, err = self.ended("run", FAKE_FAULT="middle")
         self.assertEqual((status, out), (10, ""))
-        self.assertIn("error: an open goal\navrora: middle was not proved; ", err)
+        at = err.splitlines().index("avrora: crates/middle/src/lib.rt:1:1: in `middle::half`: it is not proved that what the function ensures holds")
+        self.assertEqual(err.splitlines()[at + 1 : -1], [
+            "avrora: to go on from there: scripts/seed.py . && cd crates/middle && rt check",
+            "note: crates/middle/src/lib.rt:1:1: it is not proved that what the function ensures holds",
+            "fn middle::half: no proof: expected answers in crates/middle/proofs/half/Answers.antt",
+            "error: an open goal",
+        ])  # fmt: skip
+        self.assertTrue(err.splitlines()[-1].startswith("avrora: middle was not proved; "))
         self.assertEqual(self.ended("run")[0], 0)
 
     def test_signals_end_the_checks(self):
-        for number in (signal.SIGTERM, signal.SIGINT, signal.SIGHUP):
+        for number in SIGNALS:
             run = self.start("run", fake={"FAKE_SECONDS": "3600"})
             self.until(lambda: any("rattle-copy" in it for _, it in self.left()))
             run.send_signal(number)
@@ -142,21 +184,237 @@ class FirstRun(unittest.TestCase):
         self.assertTrue(err.startswith("avrora: bad command line\nUsage: "))
         self.assertEqual(err.splitlines().count("avrora: bad command line"), 1)
 
-    def test_what_stands_below_it_on_a_terminal(self):
+    def on_a_terminal(self, *words):
+        """What stands on a terminal after a call, and its status."""
         try:
             ours, theirs = pty.openpty()
         except OSError as it:
             self.skipTest(f"no terminal is to be had here: {it}")
-        self.ended("run")
-        self.assertEqual(self.start("refused", stdout=subprocess.DEVNULL, stderr=theirs).wait(timeout=LONG), 5)
-        self.assertEqual(self.start("selflink", stdout=subprocess.DEVNULL, stderr=theirs).wait(timeout=LONG), 4)
+        status = self.start(*words, stdout=subprocess.DEVNULL, stderr=theirs).wait(timeout=LONG)
         os.close(theirs)
         with open(ours, "rb", buffering=0) as terminal:
-            said = read_to_end(terminal).decode().splitlines()
-        self.assertEqual(said[0], "avrora: a.hex: image refused: NoEnd")
-        self.assertEqual(said[1], "(NoEnd: no line is faulty and none has type 01; docs/FORMATS.md)")
-        self.assertEqual(said[2], "avrora: a.toml: scenario refused: SelfLink")
-        self.assertEqual(said[3], "(SelfLink: a link from a node to itself; docs/FORMATS.md; avrora-tools why FILE says where)")
+            return status, read_to_end(terminal).decode().splitlines()
+
+    def test_what_stands_below_it_on_a_terminal(self):
+        """A line for each status; none where all is well."""
+        self.ended("run")
+        for status, line, below in (
+            (5, "avrora: a.hex: image refused: NoEnd", "(NoEnd: no line is faulty and none has type 01; docs/FORMATS.md)"),
+            (4, "avrora: a.toml: scenario refused: SelfLink", "(SelfLink: a link from a node to itself; docs/FORMATS.md; avrora-tools why FILE says where)"),
+            (8, "avrora: m: moves refused: TooLong, line 2", "(TooLong: a line has more than 65,536 bytes; docs/FORMATS.md)"),
+            (8, "avrora: m: moves refused: TooLong", "(TooLong: it has more than 4,194,304 bytes; docs/FORMATS.md)"),
+            # a name of somebody's choice
+            (8, "avrora: a: image refused: NoEnd: state refused: OutOfBounds, line 3", "(OutOfBounds: the line, another than line 2, "),
+            (1, "avrora: write failed", "(a full disk, a closed descriptor, "),
+            (3, "avrora: cannot read a", "(it is not there, it is a folder, "),
+            (6, "avrora: out of memory", "(the system refused memory; "),
+        ):
+            ended, said = self.on_a_terminal("say", str(status), line)
+            self.assertEqual((ended, said[0], len(said)), (status, line, 2), said)
+            self.assertTrue(said[1].startswith(below), said)
+        self.assertEqual(self.on_a_terminal("say", "9", ""), (9, ["avrora: a word of the command line is no UTF-8, or memory is refused (docs/FAULTS.md)"]))
+        for status in (0, 137):
+            self.assertEqual(self.on_a_terminal("say", str(status), "a line"), (status, ["a line"]))
+
+    def test_each_cause_is_explained(self):
+        """Each row of each table of causes in FORMATS.md, by the line that the program writes."""
+        pairs = 0
+        for part, kind in (("Scenarios", "scenario"), ("Images", "image"), ("Sources", "source"), ("States", "state"), ("Moves", "moves")):
+            for whole, cause, text in causes(part):
+                where = "" if whole or kind == "scenario" else ", line 7"
+                line = f"avrora: a name: {kind} refused: {cause}{where}"
+                words = ["bash", "-c", 'called= own_help= notice= formats=$1; . "$2"; explain 8 "$3"', "bash", TOP / "docs/FORMATS.md", TOP / "scripts/launcher.sh", line]
+                said = subprocess.run(words, capture_output=True, text=True, check=True).stderr
+                self.assertTrue(said.startswith(f"({cause}: {text}; docs/FORMATS.md"), (line, said))
+                pairs += 1
+        self.assertGreaterEqual(pairs, 38)
+
+
+def causes(part):
+    """The causes of a part of FORMATS.md: whether each is one of a whole file, its name, and its text without backquotes."""
+    text = (TOP / "docs/FORMATS.md").read_text(encoding="utf-8")
+    within = re.search(rf"^## {part}.*?\n(.*?)(?=^## |\Z)", text, re.M | re.S)[1]
+    for table in re.findall(r"(?:^\|.*\n)+", within, re.M):
+        head, _, *rows = table.splitlines()
+        if "Fault" in head or "Cause" in head:
+            for row in rows:
+                _, cause, meaning, _ = re.split(r" *\| *", row)
+                yield "whole file" in head, cause.strip("`"), meaning.replace("`", "")
+
+
+class Later(OfARepository):
+    """What a later call sees of what changed since the one before, and what it proves again."""
+
+    ALL = ["low", "middle", "avrora_program"]
+
+    def setUp(self):
+        super().setUp()
+        self.notes = self.top.parent / "proved"
+        self.room = self.top / "crates/avrora_program/out/rlib"
+        self.program = self.room / "avrora_program"
+        self.assert_proves(self.ALL)
+
+    def proves(self, **fake):
+        """Which crates a call proves, and what it says; it runs the program in any case."""
+        self.notes.write_text("", encoding="utf-8")
+        status, out, err = self.ended("run", "x", FAKE_PROVED=str(self.notes), **fake)
+        self.assertEqual((status, out), (0, "run x in repository\n"), err)
+        return self.notes.read_text(encoding="utf-8").split(), err
+
+    def assert_proves(self, crates, **fake):
+        proved, err = self.proves(**fake)
+        self.assertEqual(proved, crates, err)
+        return err
+
+    def settle(self):
+        """Waits until files that were changed just now are noted as they are, which a call sees without prove.py."""
+        time.sleep(3.2)
+        self.assert_proves([])
+        self.assertTrue(self.is_seen_at_once())
+
+    def is_seen_at_once(self):
+        return subprocess.run(["/usr/bin/env", "python3", "-I", "-S", "-B", self.top / "scripts/proving/seen.py", f"{self.program}.seen"], env=self.environment, check=False).returncode == 0
+
+    def put_over(self, path, text, in_place=True):
+        """Gives a file another text of the same size, with the times that it had."""
+        path, was = self.top / path, (self.top / path).stat()
+        self.assertEqual(len(text.encode()), was.st_size)
+        other = path if in_place else path.with_name("other")
+        other.write_text(text, encoding="utf-8")
+        other.chmod(was.st_mode)
+        os.utime(other, ns=(was.st_atime_ns, was.st_mtime_ns))
+        os.replace(other, path)
+        self.assertEqual((path.stat().st_size, path.stat().st_mtime_ns), (was.st_size, was.st_mtime_ns))
+
+    def test_nothing_changed(self):
+        self.assert_proves([])
+        self.settle()
+        # what proves is not even called
+        self.write("prove.py", "import sys\nsys.exit('called')\n")
+        self.assert_proves([])
+        os.utime(self.top / "crates/low/src/lib.rt")
+        self.assertEqual(self.ended("run")[0], 10)
+
+    def test_a_change_of_the_same_size_and_times(self):
+        """At once, and after the files' clock has moved on; in place, and by another file in its place."""
+        number = 0
+        for settles in (False, True):
+            for in_place in (True, False):
+                number += 1
+                if settles:
+                    self.settle()
+                self.put_over("crates/middle/src/lib.rt", f"fn hal{number}() {{}}\n", in_place)
+                self.assertFalse(self.is_seen_at_once())
+                self.assert_proves(["middle", "avrora_program"])
+
+    def test_many_changes_within_a_second(self):
+        for number in range(5):
+            self.put_over("crates/middle/src/lib.rt", f"fn hal{number}() {{}}\n", number % 2)
+            self.assert_proves(["middle", "avrora_program"])
+
+    def test_files_that_come_and_go(self):
+        self.settle()
+        (self.top / "crates/low/proofs").mkdir()
+        self.write("crates/low/proofs/New.antt", "new\n")
+        self.assert_proves(["low"])
+        self.settle()
+        (self.top / "crates/low/proofs/New.antt").unlink()
+        self.assertFalse(self.is_seen_at_once())
+        self.assert_proves(["low"])
+        self.write("crates/low/src/new.rt", "fn new() {}\n")
+        self.assert_proves(self.ALL)
+
+    def test_what_leaves_a_library_as_it_was(self):
+        """A comment is in no library: the crates above stay proved."""
+        self.write("crates/low/src/lib.rt", "// nothing but a comment\n")
+        err = self.assert_proves(["low"])
+        self.assertIn("avrora: 1 of 3 crates are proved (low)", err)
+        self.assertIn("avrora: 3 of 3 crates are proved, 2 of them over the same libraries as before\n", err)
+        self.write("crates/low/src/lib.rt", "fn low() {}\n")
+        self.assert_proves(self.ALL)
+
+    def test_what_is_as_it_was_again(self):
+        """A call that ended between two changes keeps what it proved."""
+        self.write("crates/low/src/lib.rt", "fn low() {}\n")
+        self.assertEqual(self.ended("run", FAKE_FAULT="middle")[0], 10)
+        self.assert_proves(["middle", "avrora_program"])
+
+    def test_another_kit(self):
+        self.settle()
+        fake_kit.write(self.top.parent / "kit/KIT-ID", "another-kit logic 00\n")
+        self.assert_proves(self.ALL)
+
+    def test_no_kit(self):
+        """The program that was proved of these sources runs; one of others is not proved, and what helps is named."""
+        without = fake_kit.environment()["PATH"]
+        self.assert_proves([], PATH=without)
+        self.settle()
+        self.assert_proves([], PATH=without)
+        self.write("crates/low/src/lib.rt", "// other\n")
+        status, out, err = self.ended("run", PATH=without)
+        self.assertEqual((status, out), (10, ""))
+        self.assertTrue(err.startswith("avrora: there is no `rt` on the PATH"))
+        for word in ("kit", "./avrora --adopt FILE", "AVRORA_PROGRAM=FILE", "docs/RELEASE.md"):
+            self.assertIn(word, err)
+
+    def test_a_program_that_is_not_the_one_that_was_built(self):
+        """Emptied it would end with status 0 and no trace. It is built again, and that is told."""
+        whole = self.program.read_text(encoding="utf-8")
+        for settles in (False, True):
+            for text in ("", whole[:50], "#!/bin/sh\necho other\n", whole.replace("in ${PWD##*/}", "at ${PWD##*/}")):
+                with self.subTest(text):
+                    if settles and len(text) in (0, len(whole)):
+                        self.settle()
+                    if len(text) == len(whole):
+                        self.put_over(self.program, text)
+                    else:
+                        self.program.write_text(text, encoding="utf-8")
+                    self.assertIn(f"avrora: {self.program} is not what was built here: it was emptied, cut off or replaced", self.assert_proves(["avrora_program"]))
+        self.program.chmod(0o644)
+        self.assert_proves(["avrora_program"])
+        self.program.unlink()
+        self.assert_proves(["avrora_program"])
+
+    def test_a_library_that_is_not_the_one_that_was_built(self):
+        (self.room / "low.rlib").write_text("other\n", encoding="utf-8")
+        self.assert_proves([])
+        self.write("crates/middle/src/lib.rt", "fn more() {}\n")
+        self.assert_proves(["low", "middle", "avrora_program"])
+
+    def test_records_that_are_cut_off(self):
+        self.assert_proves([])
+        for name in ("avrora_program.seen", "avrora_program.sum", "low.sum"):
+            for text in ("", (self.room / name).read_bytes()[:60].decode()):
+                with self.subTest((name, text)):
+                    self.assert_proves([])
+                    (self.room / name).write_text(text, encoding="utf-8")
+                    self.assertFalse(self.is_seen_at_once() and name.endswith(".seen"))
+                    proved, _ = self.proves()
+                    self.assertLessEqual(set(proved), {"low"} if name == "low.sum" else {"avrora_program"})
+
+    def test_a_change_while_it_is_proved(self):
+        self.write("crates/low/src/lib.rt", "fn low() {}\n")
+        run = self.start("run", fake={"FAKE_SECONDS": "2"})
+        self.until(lambda: any("rattle-copy" in it for _, it in self.left()))
+        self.put_over("crates/low/src/lib.rt", "fn wol() {}\n")
+        self.put_over("crates/low/src/lib.rt", "fn low() {}\n")
+        _, err = run.communicate(timeout=LONG)
+        self.assertEqual(run.returncode, 10)
+        self.assertIn("avrora: crates/low: a source was changed while it was proved, so nothing of it is kept", err)
+        self.assert_proves(self.ALL)
+
+    def test_all_is_on_the_disk_before_it_is_noted(self):
+        """The program and what is noted of it are synced before the note stands under its name."""
+        done = []
+        kit = mock.Mock(identity="a kit")
+        crate = crates.Crate("avrora_program:", str(self.top))
+        kept = room.Room(str(self.room), kit, {crate.name: crate})
+        with mock.patch.object(os, "fsync", lambda number: done.append(os.readlink(f"/proc/self/fd/{number}"))), mock.patch.object(os, "replace", lambda one, other: done.append(other)):
+            kept.mark(crate)
+        note = f"{self.program}.sum"
+        self.assertEqual(done[-1], str(self.room))
+        self.assertEqual(done.index(note), len(done) - 2)
+        self.assertLess(done.index(str(self.program)), done.index(f"{note}.new"))
 
 
 def read_to_end(terminal):
@@ -168,19 +426,7 @@ def read_to_end(terminal):
     return said
 
 
-def main():
-    if lacks := [it for it in NEEDS if not shutil.which(it)]:
-        print(f"test_first_run: skipped all tests: {', '.join(lacks)} is not installed")
-        return 0
-    result = unittest.TextTestRunner(stream=io.StringIO(), verbosity=0).run(unittest.defaultTestLoader.loadTestsFromTestCase(FirstRun))
-    for test, text in result.errors + result.failures:
-        print(f"test_first_run: {test}\n{text}", file=sys.stderr)
-    for test, cause in result.skipped:
-        print(f"test_first_run: skipped {test.id()}: {cause}")
-    well = result.wasSuccessful()
-    print(f"test_first_run: {'every test is met' if well else 'a test is not met'}")
-    return int(not well)
-
-
 if __name__ == "__main__":
-    sys.exit(main())
+    if sys.argv[1:2] in (["--help"], ["-h"]):
+        sys.exit(print(__doc__))
+    sys.exit(suites.run("test_first_run", sys.modules[__name__], NEEDS))

@@ -10,7 +10,6 @@ in a system that has nothing else.
 """
 import contextlib
 import functools
-import io
 import os
 import re
 import shutil
@@ -27,6 +26,7 @@ sys.path.insert(1, str(TOP))
 import check_docs  # pylint: disable=wrong-import-position
 import fake_kit  # pylint: disable=wrong-import-position
 import prove  # pylint: disable=wrong-import-position
+from gating import suites  # pylint: disable=wrong-import-position
 from releases import debian, gates, manuals  # pylint: disable=wrong-import-position
 
 # Seconds that nothing takes but what hangs.
@@ -106,9 +106,9 @@ class Repository:
         path.write_text(f"gate: commit {commit or self.head()}, {changed}{kit}\ncheck_docs: 0 wrong\nrt: ok\n{end}\n", encoding="utf-8")
         return path
 
-    def release(self, *words, out="made", **environment):
+    def release(self, *words, out="made", is_tried=False, **environment):
         """scripts/release, of the log of a gate that passed where no words are given."""
-        words = words or ("--gate-log", self.log())
+        words = [*(words or ("--gate-log", self.log())), *([] if is_tried else ["--untried"])]
         return ran(["scripts/release", *words, self.place / out], self.top, {**fake_kit.environment(self.kit), **environment})
 
     def made(self, out="made"):
@@ -151,7 +151,7 @@ class OfARepository(unittest.TestCase):
     def made(self, *words):
         shutil.rmtree(self.place / "made")
         status, _, err = self.repository.release(*words)
-        self.assertEqual((status, [it for it in err.splitlines() if not it.startswith("avrora: ")]), (0, []))
+        self.assertEqual((status, [it for it in err.splitlines() if not it.startswith(("avrora: ", "release: it was not tried "))]), (0, []))
 
     def assert_refused(self, why, *words):
         """There is no release, and the last line says why."""
@@ -227,14 +227,40 @@ class Making(OfARepository):
 
     def test_the_gate_begins_as_its_log_is_known(self):
         """The first line of .ci/run is the one by which scripts/release knows its log."""
-        for path in ("scripts/check_docs.py", "scripts/test_first_run.py", "scripts/test_release.py", "tools/test"):
-            fake_kit.write(self.repository.top / path, "#!/bin/sh\n")
+        fake_kit.write(self.repository.top / "scripts/before_gate.py", "")
         self.repository.commit()
         head = self.repository.head()
         begin = lambda: gates.BEGINS.match(ran([self.repository.top / ".ci/run"], self.repository.top, fake_kit.environment(self.repository.kit))[1]).groupdict()
         self.assertEqual(begin(), {"commit": head, "changed": None, "kit": fake_kit.IDENTITY})
         (self.repository.top / "new").write_text("", encoding="utf-8")
         self.assertEqual(begin(), {"commit": head, "changed": "changed, ", "kit": fake_kit.IDENTITY})
+
+    def try_by(self, text):
+        """How a release ends that is tried by this script, with what it says last, and the log of the trial."""
+        fake_kit.write(self.repository.top / "scripts/test_bare", f"#!/bin/sh\n{text}\n")
+        self.repository.commit()
+        status, out, err = self.repository.release(is_tried=True)
+        self.assertEqual("deb" in out, status != 2)
+        return status, err.splitlines()[-1], (self.place / "made/trial.log").read_text(encoding="utf-8")
+
+    def test_it_is_tried(self):
+        """A check that is not met is a fault of the release; where nothing can be tried that is said."""
+        line = "test_bare: 2026-01-02, x.tar.gz, commit c, in bookworm: 26 checks, 0 not met"
+        self.assertEqual(self.try_by(f'echo "$1"; echo "{line}"'), (0, f"release: {line}", f"{self.place}/made\n{line}\n"))
+        self.assertEqual(self.try_by("echo 'x: 26 checks, 2 not met'; exit 1"), (1, "release: x: 26 checks, 2 not met", "x: 26 checks, 2 not met\n"))
+        said = "test_bare: only root can make a system"
+        self.assertEqual(self.try_by(f"echo '{said}' >&2; exit 3"), (0, f"release: it was not tried in bare systems: {said}", f"{said}\n"))
+        self.assertEqual(self.try_by("exit 9")[:2], (1, "release: it says nothing"))
+        self.assertIn("release: it was not tried in bare systems: --untried says so\n", self.repository.release()[2])
+
+    def test_what_a_trial_needs(self):
+        """By the script itself: no release, no root or a program that is missing."""
+        script = TOP / "scripts/test_bare"
+        self.assertEqual(ran([script, self.place], self.place)[0], 2)
+        self.assertEqual(ran([script, "--help"], self.place)[0], 0)
+        status, _, err = ran([sys.executable, script, self.place / "made"], self.place, {**fake_kit.environment(), "PATH": "/nowhere"})
+        self.assertEqual(status, 3)
+        self.assertRegex(err, "^test_bare: mmdebstrap, .* is not installed: apt-get install lintian mmdebstrap\n$")
 
     def test_only_what_is_proved(self):
         shutil.rmtree(self.repository.top / "crates/avrora_program/out")
@@ -532,7 +558,7 @@ class Package(OfARepository):
 
     def test_lintian(self):
         if not shutil.which("lintian"):
-            self.skipTest("lintian is not installed")
+            self.skipTest("needs lintian (Debian's lintian)")
         package = self.package
         if program := real_program():
             status, _, err = self.repository.release("--unproved", program, out="real")
@@ -614,7 +640,7 @@ class Manuals(OfARepository):
         self.assertIn(".TP\n\\fBSelfLink\\fR\na link from a node to itself\n", scenario)
         self.assertIn(".TP\nheard: \\fBCYCLE NODE heard STATUS BYTE AGE\\fR\n", trace)
         if not shutil.which("man"):
-            self.skipTest("man is not installed")
+            self.skipTest("needs man (Debian's man-db)")
         for it in pages:
             shown = ran(["man", "--warnings", "-l", "-Tutf8", it], self.place, {**fake_kit.environment(), "MANWIDTH": "80", "LC_ALL": "C.UTF-8"})
             self.assertEqual((shown[0], shown[2]), (0, ""), it)
@@ -670,9 +696,10 @@ class Running(OfARepository):
         self.assertEqual((status, out.splitlines()[-1]), (1, "packet: 100 runs, 96 passed, 4 failed"), err)
 
     def test_the_script_for_pipelines(self):
-        lacks = [it for it in ("avr-gcc", "avr-objcopy") if not shutil.which(it)]
-        if lacks or ran(["/usr/bin/python3", "-c", "import junit_xml"], self.place)[0]:
-            self.skipTest(f"{', '.join(lacks) or 'python3-junit.xml'} is not installed")
+        if not shutil.which("avr-gcc"):
+            self.skipTest("needs avr-gcc (Debian's gcc-avr)")
+        if ran([os.environ.get("PYTHON", "/usr/bin/python3"), "-c", "import junit_xml"], self.place)[0]:
+            self.skipTest("needs junit_xml (Debian's python3-junit.xml)")
         mine = self.place / "my firmware"
         mine.mkdir()
         for name in ("relay", "flood", "packet"):
@@ -692,21 +719,13 @@ class Running(OfARepository):
 
 
 def main():
-    if lacks := [it for it in NEEDS if not shutil.which(it)]:
-        print(f"test_release: skipped all tests: {', '.join(lacks)} is not installed")
-        return 0
     if cause := check_docs.why_no_files():
-        print(f"test_release: skipped all tests: {cause}")
-        return 0
-    result = unittest.TextTestRunner(stream=io.StringIO(), verbosity=0).run(unittest.defaultTestLoader.loadTestsFromModule(sys.modules[__name__]))
-    for test, text in result.errors + result.failures:
-        print(f"test_release: {test}\n{text}", file=sys.stderr)
-    for test, cause in result.skipped:
-        print(f"test_release: skipped {test.id()}: {cause}")
-    well = result.wasSuccessful()
-    print(f"test_release: {'every test is met' if well else 'a test is not met'}")
-    return int(not well)
+        print(f"test_release: no test can run: {cause}", file=sys.stderr)
+        return suites.CANNOT
+    return suites.run("test_release", sys.modules[__name__], NEEDS)
 
 
 if __name__ == "__main__":
+    if sys.argv[1:2] in (["--help"], ["-h"]):
+        sys.exit(print(__doc__))
     sys.exit(main())

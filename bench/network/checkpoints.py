@@ -8,6 +8,7 @@ slow simulator beside this file.
 Always the same bytes. The network of `make 0` takes some minutes.
 """
 import re
+import sys
 from pathlib import Path
 
 from case_lines import CaseFile, Files, folder_of_words
@@ -257,4 +258,6 @@ def cases(folder):
 
 
 if __name__ == "__main__":
+    if sys.argv[1:2] in (["--help"], ["-h"]):
+        sys.exit(print(__doc__))
     cases(folder_of_words(__doc__)).write("calls", NAME)

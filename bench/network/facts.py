@@ -6,6 +6,7 @@
 
 Always the same bytes.
 """
+import sys
 from pathlib import Path
 
 from case_lines import CaseFile, Files, folder_of_words
@@ -353,4 +354,6 @@ def main():
 
 
 if __name__ == "__main__":
+    if sys.argv[1:2] in (["--help"], ["-h"]):
+        sys.exit(print(__doc__))
     main()

@@ -8,6 +8,7 @@ Always the same bytes. A failing call's status and its line follow from docs/FOR
 its length and the bytes that it takes at a call, where the rows of an epoch are written before the next epoch runs.
 """
 import re
+import sys
 from pathlib import Path
 
 from case_lines import CaseFile, Files, fnv, folder_of_words
@@ -270,4 +271,6 @@ def case_file(folder):
 
 
 if __name__ == "__main__":
+    if sys.argv[1:2] in (["--help"], ["-h"]):
+        sys.exit(print(__doc__))
     case_file(folder_of_words(__doc__)).write("faults", "faults.txt")

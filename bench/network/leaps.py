@@ -6,6 +6,7 @@
 Behind its window a node takes many rounds of such a loop at once. The rows that each case must come to were worked out by hand
 first. A word of the flash that no case names is no opcode, and stops the node.
 """
+import sys
 from case_lines import folder_of_words
 from draw import OCR0, SPH, TCCR0, TIMSK, UCSRA, UCSRB, UDR, hex_text, ldi, out, word
 from facts import Networks
@@ -313,4 +314,6 @@ def main():
 
 
 if __name__ == "__main__":
+    if sys.argv[1:2] in (["--help"], ["-h"]):
+        sys.exit(print(__doc__))
     main()

@@ -7,6 +7,7 @@ beside this file.
 
 Always the same bytes.
 """
+import sys
 from case_lines import Files, folder_of_words
 from checkpoints import Cases
 from draw import hex_text, ring
@@ -106,4 +107,6 @@ def cases(folder):
 
 
 if __name__ == "__main__":
+    if sys.argv[1:2] in (["--help"], ["-h"]):
+        sys.exit(print(__doc__))
     cases(folder_of_words(__doc__)).write("calls", NAME)

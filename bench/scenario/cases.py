@@ -616,6 +616,8 @@ def hostile():
 
 
 if __name__ == "__main__":
+    if sys.argv[1:2] in (["--help"], ["-h"]):
+        sys.exit(print(__doc__))
     if sys.argv[1] == "--large":
         Path(sys.argv[2]).write_bytes(b"== large\n" + large() + b"\n")
     elif sys.argv[1] == "--hostile":

@@ -17,7 +17,7 @@ class Start(unittest.TestCase):
         with open(f"{TOP}/avrora", encoding="utf-8") as file:
             words = file.read()
         self.assertIn(f"\nroom=$top/{room}\n", words)
-        self.assertIn('run python3 "$top/prove.py" avrora_program "$room"', words)
+        self.assertIn('run "$python" "$top/prove.py" avrora_program "$room"', words)
 
 
 class End(unittest.TestCase):

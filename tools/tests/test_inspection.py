@@ -28,7 +28,7 @@ import drawn_types
 
 PROGRAM = os.environ.get("AVRORA_PROGRAM")
 needs_program = pytest.mark.skipif(not PROGRAM, reason="AVRORA_PROGRAM names no program")
-needs_compiler = pytest.mark.skipif(not shutil.which("avr-gcc"), reason="avr-gcc is not installed")
+needs_compiler = pytest.mark.skipif(not shutil.which("avr-gcc"), reason="needs avr-gcc (Debian's gcc-avr)")
 
 needs_gdb = pytest.mark.skipif(not shutil.which("avr-gdb"), reason="avr-gdb is not installed (Debian's gdb-avr)")
 

@@ -55,7 +55,8 @@ def command(request, package, tmp_path_factory):
     """The command in a new environment, in which nothing else is."""
     venv = tmp_path_factory.mktemp("install") / "venv"
     if ended(request.param, "-m", "venv", str(venv)).returncode:
-        pytest.skip(f"{request.param} makes no virtual environment with pip (Debian's python3-venv)")
+        own = " (Debian's python3-venv)" if request.param == sys.executable else ""
+        pytest.skip(f"{request.param} makes no virtual environment with pip{own}")
     done = ended(f"{venv}/bin/python", "-m", "pip", "install", "--no-input", "--no-index", "--no-deps", package)
     assert done.returncode == 0, done.stderr
     return f"{venv}/bin/avrora-tools"

@@ -17,7 +17,7 @@ RACES = Path(TOP) / "examples" / "races"
 PROGRAM = os.environ.get("AVRORA_PROGRAM")
 
 needs_program = pytest.mark.skipif(not PROGRAM, reason="AVRORA_PROGRAM names no program")
-needs_compiler = pytest.mark.skipif(not shutil.which("avr-gcc"), reason="avr-gcc is not installed")
+needs_compiler = pytest.mark.skipif(not shutil.which("avr-gcc"), reason="needs avr-gcc (Debian's gcc-avr)")
 
 pytestmark = needs_program
 
