@@ -39,9 +39,8 @@ pub record IsAhead (a : Forecast) (clock : ℕ) (b : Board) : Type 0 where
   pub clear : a.clear ≤ a.next
   pub down : 0 < a.clear → a.lines ≡ 0
 
--- up to the beginning of cycle `bound` no line is up, nothing of a board ends and no flag of a timer changes
-pub record IsClear (bound : ℕ) (c : ClockedBoard) : Type 0 where
-  pub down : c.clock < bound → (lines_of c.board).bits ≡ 0
+-- up to the beginning of cycle `bound` nothing of a board ends and no flag of a timer changes
+pub record IsUneventful (bound : ℕ) (c : ClockedBoard) : Type 0 where
   pub quiet : (t : ℕ) → c.clock ≤ t → t < bound → board_quiet t c.board ≡ true
   pub calm : (i : ℕ) → c.clock + i < bound → changes_flag_at c.clock c.board i ≡ false
 

@@ -153,12 +153,12 @@ pub record MayEnd (end n : ℕ) (m : Machine) : Type 0 where
   pub within : m.bus.io.clock ≤ end
   pub none : (i : ℕ) → m.bus.io.clock + i < end → script_byte m.script (m.bus.io.clock + i) ≡ None
 
--- a sprint from cycle t on, of at most up to `end`, between two instructions: no line is up. Parts of the core stand
+-- a sprint from cycle t on, of at most up to `end`, between two instructions: no line is up, or the flag I is off. Parts of the core stand
 -- beside the machine, which says of no instruction that it is owed; one is, up to this count of them
 pub record IsTurning (t end : ℕ) (first m : Machine) (regs : Registers) (core : Core) (owed_to : ℕ) : Type 0 where
   pub within : m.bus.io.clock ≤ end
   pub off : m.owed ≡ false
-  pub clear : (lines_of m.bus.io.board).bits ≡ 0
+  pub clear : nat_lt core.sreg.bits 128 ≡ false → (lines_of m.bus.io.board).bits ≡ 0
   pub top : owed_to ≤ m.count + 1
   pub runs : IsSprinting t m.bus.io.clock first (owing (nat_lt m.count owed_to) (beside regs core m))
 

@@ -1,7 +1,8 @@
 // Instructions of a node, one behind another, while nothing is due.
 ghost use Rattle.std.specs.Prelude.{◌≡◌, ◌≤◌, ◌<◌, ◌+◌, nat_le, nat_lt, ℕ, None, true, false, IfSome};
 ghost use Rattle.air_base.specs.Bounds.{LAST_CYCLE, LAST_END};
-ghost use Rattle.board_io.specs.Lagging.{IsClear};
+ghost use Rattle.board_io.specs.Lines.{lines_of};
+ghost use Rattle.board_io.specs.Lagging.{IsUneventful};
 ghost use Rattle.node_core.specs.Inside.{MayAct, is_told};
 ghost use Rattle.node_core.specs.Interrupts.{due};
 ghost use Rattle.node_core.specs.Pace.Midway.{IsSprinted, IsSprinting, IsStep, IsStepped, MayEnd, beside, counted, leaves_board, leaves_i, over, owing, step_of};
@@ -61,13 +62,18 @@ fn is_on(sreg: u8) -> bool
     sreg >= 128
 }
 
-// The cycle up to which nothing happens, as far as what runs now tells, of those up to `end`; 0 where a line is up.
+// The cycle up to which nothing happens, as far as what runs now tells, of those up to `end`; 0 where a line is up and SREG
+// has the flag I on.
 #[inline(always)]
-fn clear_to(bus: &NodeBus, end: u64) -> u64
+fn clear_to(bus: &NodeBus, sreg: u8, end: u64) -> u64
     ensures within { result ≤ end }
-    ensures clear { IsClear result bus.now.io }
+    ensures calm { IsUneventful result bus.now.io }
+    ensures down { nat_lt sreg 128 ≡ false → bus.now.io.clock < result → (lines_of bus.now.io.board).bits ≡ 0 }
 {
-    end.min(bus.io.clear())
+    if is_on(sreg) {
+        return end.min(bus.io.clear());
+    }
+    end.min(bus.io.calm())
 }
 
 // Counts an instruction that was executed, and says what the step did.
@@ -162,6 +168,14 @@ impl Machine {
         self.bus.io.now()
     }
 
+    // Whether a line is up and the flag I is on.
+    #[inline(always)]
+    fn is_let_in(&self) -> bool
+        ensures { result ≡ false → nat_lt self.now.cpu.sreg.bits 128 ≡ false → (lines_of self.now.bus.io.board).bits ≡ 0 }
+    {
+        is_on(self.cpu.sreg.bits) && self.bus.io.lines().bits != 0
+    }
+
     // The last cycle of those from `cycle` on and up to `end` before the window, or of all behind it: an instruction that
     // begins by then has no row. `None` within the window.
     #[inline]
@@ -181,9 +195,9 @@ impl Machine {
     }
 
     /// Executes instructions from `cycle` on, before the window or behind it and up to `end`, below which no byte arrives,
-    /// while no interrupt line is up and the devices end nothing. It ends before SLEEP and before an instruction that
-    /// halts the node. Where a line is up, it only leaps over a loop that waits, and, by `back`, only behind a jump back.
-    pub fn sprint(&mut self, cycle: u64, end: u64, back: bool) -> Sprinted
+    /// while no interrupt is let in, by the lines and the flag I, and the devices end nothing. It ends before SLEEP and
+    /// before an instruction that halts the node.
+    pub fn sprint(&mut self, cycle: u64, end: u64) -> Sprinted
         requires may { MayAct cycle self.old }
         requires within { cycle ≤ end }
         requires early { end ≤ LAST_CYCLE }
@@ -197,13 +211,6 @@ impl Machine {
                 inside: false,
             };
         };
-        if back && self.bus.io.lines().bits != 0 {
-            let passed = self.leap(cycle, last);
-            return Sprinted {
-                at: cycle + passed,
-                inside: false,
-            };
-        }
         // it executes the instruction that begins at its end, too
         self.sprint_untold(cycle, last)
     }
@@ -218,7 +225,7 @@ impl Machine {
         ensures sprinted { IsSprinted cycle result.at result.inside self.old self.new }
         ensures within { result.at ≤ end }
     {
-        if self.owed || self.bus.io.lines().bits != 0 {
+        if self.owed || self.is_let_in() {
             return Sprinted {
                 at: cycle,
                 inside: false,
@@ -237,7 +244,7 @@ impl Machine {
         loop {
             let slots = self.program.slots();
             // only an access to a device moves it
-            let mut bound = clear_to(&self.bus, end);
+            let mut bound = clear_to(&self.bus, core.sreg.bits, end);
             loop {
                 match one_step(
                     &self.program,
@@ -267,13 +274,13 @@ impl Machine {
                         unseen -= 1;
                     }
                     Step::Loaded { taken } => {
-                        bound = clear_to(&self.bus, end);
+                        bound = clear_to(&self.bus, core.sreg.bits, end);
                         if !self.bus.io.leap_within(bound, taken) {
                             return self.end_sprint(&regs, core, end, taken, false);
                         }
                     }
                     Step::Stored { taken } => {
-                        bound = clear_to(&self.bus, end);
+                        bound = clear_to(&self.bus, core.sreg.bits, end);
                         if is_on(flags) == is_on(core.sreg.bits) {
                             if !self.bus.io.leap_within(bound, taken) {
                                 return self.end_sprint(&regs, core, end, taken, false);
@@ -290,7 +297,7 @@ impl Machine {
                         }
                     }
                     Step::Enabled { taken } => {
-                        bound = clear_to(&self.bus, end);
+                        bound = clear_to(&self.bus, core.sreg.bits, end);
                         if !self.bus.io.leap_within(bound, taken) {
                             return self.end_sprint(&regs, core, end, taken, true);
                         }
