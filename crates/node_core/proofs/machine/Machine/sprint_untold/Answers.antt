@@ -33,7 +33,7 @@ loop-self-init c =
       turning = record {
         within = omega (arith, now, within);
         off = c.if-self.false;
-        clear = c.is_let_in.ensures c.if-is_let_in.false;
+        clear = λ up. c.is_let_in.ensures c.if-is_let_in.false (ap (λ (k : Registers × Core). nat_lt k.1.sreg.bits 128) (sym c.parts.ensures) ∙ up);
         top = omega arith;
         runs = subst (λ (b : Bool). IsSprinting c.args.cycle m.bus.io.clock m (owing b (beside c.parts.result.0 c.parts.result.1 m))) (sym (none_owed m.count))
             (subst (λ (x : Machine). IsSprinting c.args.cycle m.bus.io.clock m x) parts (subst (λ (u : ℕ). IsSprinting c.args.cycle u m m) (sym now) first));
