@@ -62,6 +62,16 @@ fn is_on(sreg: u8) -> bool
     sreg >= 128
 }
 
+// The cycle up to which nothing happens, as far as what runs now tells, of those up to `end`, where lines may be up.
+#[cold]
+#[inline(never)]
+fn calm_to(bus: &NodeBus, end: u64) -> u64
+    ensures within { result ≤ end }
+    ensures calm { IsUneventful result bus.now.io }
+{
+    end.min(bus.io.calm())
+}
+
 // The cycle up to which nothing happens, as far as what runs now tells, of those up to `end`; 0 where a line is up and SREG
 // has the flag I on.
 #[inline(always)]
@@ -70,10 +80,11 @@ fn clear_to(bus: &NodeBus, sreg: u8, end: u64) -> u64
     ensures calm { IsUneventful result bus.now.io }
     ensures down { nat_lt sreg 128 ≡ false → bus.now.io.clock < result → (lines_of bus.now.io.board).bits ≡ 0 }
 {
-    if is_on(sreg) {
-        return end.min(bus.io.clear());
+    let clear = bus.io.clear();
+    if clear == 0 && !is_on(sreg) {
+        return calm_to(bus, end);
     }
-    end.min(bus.io.calm())
+    end.min(clear)
 }
 
 // Counts an instruction that was executed, and says what the step did.
