@@ -62,29 +62,23 @@ fn is_on(sreg: u8) -> bool
     sreg >= 128
 }
 
-// The cycle up to which nothing happens, as far as what runs now tells, of those up to `end`, where lines may be up.
-#[cold]
-#[inline(never)]
+// The cycle up to which nothing happens, as far as what runs now tells, of those up to `end`; 0 where a line is up.
+#[inline(always)]
+fn clear_to(bus: &NodeBus, end: u64) -> u64
+    ensures within { result ≤ end }
+    ensures calm { IsUneventful result bus.now.io }
+    ensures down { bus.now.io.clock < result → (lines_of bus.now.io.board).bits ≡ 0 }
+{
+    end.min(bus.io.clear())
+}
+
+// That cycle, be a line up or not.
+#[inline(always)]
 fn calm_to(bus: &NodeBus, end: u64) -> u64
     ensures within { result ≤ end }
     ensures calm { IsUneventful result bus.now.io }
 {
     end.min(bus.io.calm())
-}
-
-// The cycle up to which nothing happens, as far as what runs now tells, of those up to `end`; 0 where a line is up and SREG
-// has the flag I on.
-#[inline(always)]
-fn clear_to(bus: &NodeBus, sreg: u8, end: u64) -> u64
-    ensures within { result ≤ end }
-    ensures calm { IsUneventful result bus.now.io }
-    ensures down { nat_lt sreg 128 ≡ false → bus.now.io.clock < result → (lines_of bus.now.io.board).bits ≡ 0 }
-{
-    let clear = bus.io.clear();
-    if clear == 0 && !is_on(sreg) {
-        return calm_to(bus, end);
-    }
-    end.min(clear)
 }
 
 // Counts an instruction that was executed, and says what the step did.
@@ -254,8 +248,8 @@ impl Machine {
         let mut owed_to = 0;
         loop {
             let slots = self.program.slots();
-            // only an access to a device moves it
-            let mut bound = clear_to(&self.bus, core.sreg.bits, end);
+            // only an access to a device moves it: the lines then count, be the flag I on or not
+            let mut bound = calm_to(&self.bus, end);
             loop {
                 match one_step(
                     &self.program,
@@ -285,13 +279,13 @@ impl Machine {
                         unseen -= 1;
                     }
                     Step::Loaded { taken } => {
-                        bound = clear_to(&self.bus, core.sreg.bits, end);
+                        bound = clear_to(&self.bus, end);
                         if !self.bus.io.leap_within(bound, taken) {
                             return self.end_sprint(&regs, core, end, taken, false);
                         }
                     }
                     Step::Stored { taken } => {
-                        bound = clear_to(&self.bus, core.sreg.bits, end);
+                        bound = clear_to(&self.bus, end);
                         if is_on(flags) == is_on(core.sreg.bits) {
                             if !self.bus.io.leap_within(bound, taken) {
                                 return self.end_sprint(&regs, core, end, taken, false);
@@ -308,7 +302,7 @@ impl Machine {
                         }
                     }
                     Step::Enabled { taken } => {
-                        bound = clear_to(&self.bus, core.sreg.bits, end);
+                        bound = clear_to(&self.bus, end);
                         if !self.bus.io.leap_within(bound, taken) {
                             return self.end_sprint(&regs, core, end, taken, true);
                         }

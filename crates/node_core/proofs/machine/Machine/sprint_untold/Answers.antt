@@ -46,8 +46,8 @@ loop-self-2-init c = record {
   turning = c.loop-self.invariant.turning;
   slots = c.slots-slots.ensures;
   flag = c.loop-self.invariant.flag;
-  within = c.clear_to-bound.ensures.within;
-  ahead = c.clear_to-bound.ensures.calm;
+  within = c.calm_to-bound.ensures.within;
+  ahead = c.calm_to-bound.ensures.calm;
   on = omega arith;
 }
 
@@ -309,7 +309,7 @@ loop-self-2-preserved-else-not-leap_within-4 c =
     record {
       turning = turned c.args.cycle c.args.end c.args.self.now self l.regs l.core l.owed_to h c.in-Loaded.taken s.regs s.core s.bus s.count false p c.requires.none c.leap_within-in-Loaded.new.self (omega (arith, below, upto)) (e.idle refl) (e.state refl) (e.lines refl) (e.clock refl) l.owed_to
           (let up = h.top in omega (arith, more, up)) (subst (λ (n : ℕ). nat_lt n l.owed_to ≡ false) (sym more) (not_owed self.count l.owed_to h.top))
-          (λ up. c.clear_to-bound-in-Loaded.ensures.down up (let some = p.some in omega (arith, some, below)));
+          (λ up. c.clear_to-bound-in-Loaded.ensures.down (let some = p.some in omega (arith, some, below)));
       slots = l.invariant.slots;
       flag = l.invariant.flag ∙ sym (c.in-Loaded.ensures.flag refl);
       within = upto;
@@ -372,7 +372,7 @@ loop-self-2-preserved-else-not-leap_within-5 c =
     record {
       turning = turned c.args.cycle c.args.end c.args.self.now self l.regs l.core l.owed_to h c.in-Stored.taken s.regs s.core s.bus s.count false p c.requires.none c.leap_within-then-is_on.new.self (omega (arith, below, upto)) (e.idle refl) (e.state refl) (e.lines refl) (e.clock refl) l.owed_to
           (let up = h.top in omega (arith, more, up)) (subst (λ (n : ℕ). nat_lt n l.owed_to ≡ false) (sym more) (not_owed self.count l.owed_to h.top))
-          (λ up. c.clear_to-bound-in-Stored.ensures.down up (let some = p.some in omega (arith, some, below)));
+          (λ up. c.clear_to-bound-in-Stored.ensures.down (let some = p.some in omega (arith, some, below)));
       slots = l.invariant.slots;
       flag = same_side l.flags l.core.sreg.bits s.core.sreg.bits c.is_on.result c.is_on-in-Stored.result l.invariant.flag c.is_on.ensures c.is_on-in-Stored.ensures c.if-is_on.true;
       within = upto;
@@ -445,7 +445,7 @@ loop-self-2-preserved-then-on c =
     record {
       turning = turned c.args.cycle c.args.end c.args.self.now self l.regs l.core l.owed_to h c.in-Stored.taken s.regs s.core s.bus s.count (not c.is_on-on.result) p c.requires.none c.leap_within-else-is_on.new.self (omega (arith, below, upto)) (e.idle refl) (e.state refl) (e.lines refl) (e.clock refl) (s.count + 1)
           (omega arith) (still_owed s.count ∙ ap not (sym c.if-on.true))
-          (λ up. c.clear_to-bound-in-Stored.ensures.down up (let some = p.some in omega (arith, some, below)));
+          (λ up. c.clear_to-bound-in-Stored.ensures.down (let some = p.some in omega (arith, some, below)));
       slots = l.invariant.slots;
       flag = refl;
       within = upto;
@@ -478,7 +478,7 @@ loop-self-2-preserved-else-on c =
     record {
       turning = turned c.args.cycle c.args.end c.args.self.now self l.regs l.core l.owed_to h c.in-Stored.taken s.regs s.core s.bus s.count (not c.is_on-on.result) p c.requires.none c.leap_within-else-is_on.new.self (omega (arith, below, upto)) (e.idle refl) (e.state refl) (e.lines refl) (e.clock refl) l.owed_to
           (let up = h.top in omega (arith, more, up)) (subst (λ (n : ℕ). nat_lt n l.owed_to ≡ false) (sym more) (not_owed self.count l.owed_to h.top) ∙ ap not (sym c.if-on.false))
-          (λ up. c.clear_to-bound-in-Stored.ensures.down up (let some = p.some in omega (arith, some, below)));
+          (λ up. c.clear_to-bound-in-Stored.ensures.down (let some = p.some in omega (arith, some, below)));
       slots = l.invariant.slots;
       flag = refl;
       within = upto;
@@ -551,7 +551,7 @@ loop-self-2-preserved c =
     record {
       turning = turned c.args.cycle c.args.end c.args.self.now self l.regs l.core l.owed_to h c.in-Enabled.taken s.regs s.core s.bus s.count true p c.requires.none c.leap_within-in-Enabled.new.self (omega (arith, below, upto)) (e.idle refl) (e.state refl) (e.lines refl) (e.clock refl) (s.count + 1)
           (omega arith) (still_owed s.count)
-          (λ up. c.clear_to-bound-in-Enabled.ensures.down up (let some = p.some in omega (arith, some, below)));
+          (λ up. c.clear_to-bound-in-Enabled.ensures.down (let some = p.some in omega (arith, some, below)));
       slots = l.invariant.slots;
       flag = refl;
       within = upto;
