@@ -265,7 +265,7 @@ leap_within-requires-in-Loaded-clause-some c =
 pub leap_within-requires-in-Loaded-clause-early : goal.leap_within-requires-in-Loaded-clause-early
 leap_within-requires-in-Loaded-clause-early c =
     let l = c.loop-self-2 in
-    let upto = c.clear_to-bound-in-Loaded.ensures.within in omega (arith, upto, c.requires.early)
+    let upto = c.clear_to-bound.ensures.within in omega (arith, upto, c.requires.early)
 
 pub end_sprint-requires-then-not-leap_within-4 : goal.end_sprint-requires-then-not-leap_within-4
 end_sprint-requires-then-not-leap_within-4 c =
@@ -291,7 +291,7 @@ loop-self-2-smaller-else-not-leap_within-4 c =
     let h = l.invariant.turning in let s = c.one_step.new in let m : Machine = turning self l.regs l.core l.owed_to in
     let p = c.in-Loaded.ensures.step m refl (acts c.args.cycle c.args.end c.args.self.now self l.regs l.core l.owed_to h c.requires.early c.requires.may.room) (still c.args.cycle c.args.end c.args.self.now self l.regs l.core l.owed_to h c.requires.untold) in
     let e = c.if-not-leap_within-4.ensures in
-    let upto = c.clear_to-bound-in-Loaded.ensures.within in let below = e.within refl in
+    let upto = c.clear_to-bound.ensures.within in let below = e.within refl in
     let moves = moved c.args.cycle c.args.end c.args.self.now self l.regs l.core l.owed_to h c.in-Loaded.taken s.regs s.core s.bus s.count false p c.requires.none c.leap_within-in-Loaded.new.self (omega (arith, below, upto)) (e.idle refl) (e.state refl) (e.lines refl) (e.clock refl) in
     let on = e.clock refl in omega (arith, moves, below, upto, on)
 
@@ -302,14 +302,14 @@ loop-self-2-preserved-else-not-leap_within-4 c =
     let h = l.invariant.turning in let s = c.one_step.new in let m : Machine = turning self l.regs l.core l.owed_to in
     let p = c.in-Loaded.ensures.step m refl (acts c.args.cycle c.args.end c.args.self.now self l.regs l.core l.owed_to h c.requires.early c.requires.may.room) (still c.args.cycle c.args.end c.args.self.now self l.regs l.core l.owed_to h c.requires.untold) in
     let e = c.if-not-leap_within-4.ensures in
-    let upto = c.clear_to-bound-in-Loaded.ensures.within in let below = e.within refl in
+    let upto = c.clear_to-bound.ensures.within in let below = e.within refl in
     let moves = moved c.args.cycle c.args.end c.args.self.now self l.regs l.core l.owed_to h c.in-Loaded.taken s.regs s.core s.bus s.count false p c.requires.none c.leap_within-in-Loaded.new.self (omega (arith, below, upto)) (e.idle refl) (e.state refl) (e.lines refl) (e.clock refl) in
     let more = p.count in
     let last = l.invariant.on in
     record {
       turning = turned c.args.cycle c.args.end c.args.self.now self l.regs l.core l.owed_to h c.in-Loaded.taken s.regs s.core s.bus s.count false p c.requires.none c.leap_within-in-Loaded.new.self (omega (arith, below, upto)) (e.idle refl) (e.state refl) (e.lines refl) (e.clock refl) l.owed_to
           (let up = h.top in omega (arith, more, up)) (subst (λ (n : ℕ). nat_lt n l.owed_to ≡ false) (sym more) (not_owed self.count l.owed_to h.top))
-          (λ up. c.clear_to-bound-in-Loaded.ensures.down (let some = p.some in omega (arith, some, below)));
+          (λ up. c.clear_to-bound.ensures.down (let some = p.some in omega (arith, some, below)));
       slots = l.invariant.slots;
       flag = l.invariant.flag ∙ sym (c.in-Loaded.ensures.flag refl);
       within = upto;
