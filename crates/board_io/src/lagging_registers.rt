@@ -200,7 +200,9 @@ impl LaggingBoard {
         if self.held.board.asks_for_a_read() {
             return self.get_beside(at);
         }
-        self.held.board.get_by(Rule::Usart0(UsartReg::Udr), at as u8)
+        self.held
+            .board
+            .get_by(Rule::Usart0(UsartReg::Udr), at as u8)
     }
 
     // A read of a port, or of a timer that may have passed its top, in a call of its own: inlined, the code would slow the
