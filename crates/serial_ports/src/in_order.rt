@@ -79,7 +79,9 @@ impl InOrder {
         self.stretches.get(count_over(&self.stretches, cycle))
     }
 
+    // In a call of its own, as the next one: then what asks for the bytes of a script without any is small.
     /// The byte that arrives in `cycle`, `None` exactly where that is no byte's cycle.
+    #[inline(never)]
     pub fn byte_at(&self, cycle: u64) -> Option<u8>
         ensures value { result ≡ first_byte self.now cycle }
         ensures law { Arrives (record { stretches = self.now }) cycle result }
@@ -91,6 +93,7 @@ impl InOrder {
     }
 
     /// In how many of the cycles from `cycle` on, of at most `most`, no byte arrives.
+    #[inline(never)]
     pub fn quiet(&self, cycle: u64, most: u64) -> u64
         requires { cycle + most ≤ LAST_END }
         ensures within { result ≤ most }

@@ -124,6 +124,7 @@ impl Script {
     }
 
     /// In how many of the cycles from `cycle` on, of at most `most`, no byte arrives. With no bytes it only compares.
+    #[inline]
     pub fn quiet(&self, cycle: u64, most: u64) -> u64
         requires { cycle + most ≤ LAST_END }
         ensures within { result ≤ most }
