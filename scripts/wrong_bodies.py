@@ -1,7 +1,7 @@
 #!/usr/bin/env python3
 """Makes wrong bodies of a crate's functions, and asks the checker which of them the contracts let through.
 
-    scripts/wrong_bodies.py CRATE [--only WORD] [--list] [--room FOLDER] [--minutes N]
+    scripts/wrong_bodies.py CRATE [--only WORD] [--kinds PATTERN] [--list] [--room FOLDER] [--minutes N]
 
 Of each function (but `drop`, and those that are made for a test) it takes the body and changes one thing: it returns at once, gives the
 other of two answers, changes a number or a constant, leaves a call out, empties an arm, turns a test, names the other variant of an enum
@@ -61,7 +61,7 @@ class Function:
 
     def calls(self, names):
         text = "\n".join(self.body)
-        return {it for it in names if it != self.title() and re.search(rf"\b{it}\b", text)}
+        return {it for it in names if it != self.title() and re.search(rf"\b{it}(?:::<[^(]*>)?\(", text)}
 
 
 @dataclass
@@ -399,6 +399,7 @@ def main():
     words = argparse.ArgumentParser(description=__doc__, formatter_class=argparse.RawDescriptionHelpFormatter)
     words.add_argument("crate")
     words.add_argument("--only", default="", help="functions whose name has this word")
+    words.add_argument("--kinds", default="", help="bodies whose change fits this pattern, as 'at once|left out'")
     words.add_argument("--list", action="store_true", help="print the bodies, and check nothing")
     words.add_argument("--room", type=Path, default=Path(tempfile.gettempdir()) / "avrora-bodies")
     words.add_argument("--minutes", type=float, default=0)
@@ -412,6 +413,7 @@ def main():
     asked = [it for it in functions if given.only in it.name]
     wrongs = list(wrong_bodies(asked, variants_of(source)))
     wrongs += [it for path in files for it in wrong_constants(path, asked) if given.only in it.function.name]
+    wrongs = [it for it in wrongs if re.search(given.kinds, it.what)]
     if given.list:
         for it in wrongs:
             print(it.where(crate))
