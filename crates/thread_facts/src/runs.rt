@@ -97,7 +97,7 @@ struct Ended {
 
 // The program, called by these words, its name first, over the files beside it. The write to the output with the number
 // `fails`, from 0, fails, if there is one.
-fn ended<R: Threads + Wait + Files + AllocGlobal + Sync, G: Gate + Sync>(
+fn call<R: Threads + Wait + Files + AllocGlobal + Sync, G: Gate + Sync>(
     rt: &R,
     words: &[&str],
     fails: Option<u64>,
@@ -125,7 +125,7 @@ pub fn write_call<R: Threads + Wait + Files + AllocGlobal + Sync, G: Gate + Sync
     gate: &G,
     out: &mut O,
 ) -> Result<(), Failed> {
-    let ended = ended(rt, words, fails, gate)?;
+    let ended = call(rt, words, fails, gate)?;
     write_number("status", u64::from(ended.status), out)?;
     write_all(out, ended.out.taken())?;
     Ok(write_all(out, ended.err.taken())?)
@@ -138,7 +138,7 @@ pub fn write_end<R: Threads + Wait + Files + AllocGlobal + Sync, G: Gate + Sync,
     gate: &G,
     out: &mut O,
 ) -> Result<(), Failed> {
-    let ended = ended(rt, words, None, gate)?;
+    let ended = call(rt, words, None, gate)?;
     write_number("status", u64::from(ended.status), out)?;
     write_number("bytes", ended.out.taken().len() as u64, out)?;
     Ok(write_all(out, ended.err.taken())?)
