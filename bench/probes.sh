@@ -94,6 +94,12 @@ count() {
     executed=$(awk 'END { print $(NF - 1) }' "$work/rows")
 }
 
+# HOST of `monitor` over all of so many cycles of the last probe's image.
+monitor() {
+    printf 'cycles = %d\nnode = [{ image = "probe.hex" }]\n' "$1" >"$work/probe.toml"
+    (cd "$work" && valgrind --tool=callgrind --callgrind-out-file=/dev/null "$program" monitor probe.toml 0 "$1" 2>&1 >/dev/null | awk '/Collected/ { print $4 }')
+}
+
 status=0
 while read -r name most window source; do
     tr '|' '\n' <<<"$source" >"$work/probe.s"
@@ -110,4 +116,12 @@ while read -r name most window source; do
         printf "%s: %.2f, at most %s%s\n", n, h / e, m, (h > m * e) ? ": MORE" : ""
         exit (h > m * e) }' || status=1
 done < <(probes)
+
+# Rows are tallied many at once: with few at once, `monitor` takes far more for a cycle.
+printf 'again:\nldi r20, 1\ndec r20\nrjmp again\n' >"$work/probe.s"
+"$program" asm "$work/probe.s" >"$work/probe.hex"
+h=$(monitor 20000)
+awk -v m=281 -v h="$(($(monitor 100000) - h))" 'BEGIN {
+    printf "monitor, a cycle: %.2f, at most %s%s\n", h / 80000, m, (h > m * 80000) ? ": MORE" : ""
+    exit (h > m * 80000) }' || status=1
 exit $status
