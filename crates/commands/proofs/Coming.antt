@@ -78,9 +78,9 @@ module _ {A B : Type 0} (files : Files) (first : Plan A) (next : A → Plan B) (
   to_next : Reached files Whole (next a)
   to_next = goes_on files first a next got.reached
 
-  pub then_got : (b : B) → Reached files (next a) (Give b) → HasGot files Whole store store' err err' b
-  then_got b reached = record {
-    reached = both files Whole (next a) (Give b) to_next reached;
+  pub then_got : (b c : B) → b ≡ c → Reached files (next a) (Give b) → HasGot files Whole store store' err err' c
+  then_got b c e reached = record {
+    reached = subst (λ (it : B). Reached files Whole (Give it)) e (both files Whole (next a) (Give b) to_next reached);
     same = got.same;
     silent = got.silent;
   }

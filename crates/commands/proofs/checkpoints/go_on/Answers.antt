@@ -8,9 +8,9 @@ use Rattle.commands.proofs.checkpoints.go_on.Goals as goal
 pub loop-saved-init : goal.loop-saved-init
 loop-saved-init c =
     let state : StateOf = c.args.saved.now.state in
-    let is = c.requires.fresh.is in
+    let is = c.requires.look.fresh.is in
     let at : c.args.saved.now.floor ≡ state.cycle = ap (λ (a : SavedAt). a.floor) is in
-    let from : state.cycle ≤ c.args.end = c.requires.from in
+    let from : state.cycle ≤ c.args.end = c.requires.look.from in
     record {
       same = ap (λ (a : SavedAt). a.scenario) is;
       state = refl;
@@ -20,7 +20,7 @@ loop-saved-init c =
 
 pub pass-requires-clause-within : goal.pass-requires-clause-within
 pass-requires-clause-within c =
-    let to = c.requires.to in
+    let to = c.requires.look.to in
     let same = ap (λ (s : ScenarioOf). s.topo.limit) c.loop-saved.invariant.same in
     omega (arith, to, same)
 

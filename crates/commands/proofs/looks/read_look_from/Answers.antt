@@ -16,11 +16,11 @@ returns-in-Err-read_saved-clause-err g c =
     state_stopped _ _ c.args.file.now c.args.name.now (look_from_or c.args.name.now c.args.cycle) c.in-Ok.network _ _ _ _ _ c.in-Ok.ensures.ok c.in-Ok.ensures.held (end_at c.in-Err-read_saved.trouble) _ _
     c.in-Err-read_saved.ensures.read c.tell.ensures
 
-pub returns-then-cycle-cycle-clause-err : goal.returns-then-cycle-cycle-clause-err
-returns-then-cycle-cycle-clause-err g c =
+pub returns-then-cycle-clause-err : goal.returns-then-cycle-clause-err
+returns-then-cycle-clause-err g c =
     let saved : SavedAt = c.in-Ok-read_saved.saved in
     let at : c.cycle.result ≡ saved.state.cycle = c.cycle.ensures ∙ ap (λ (a : SavedAt). a.floor) c.in-Ok-read_saved.ensures.fresh.is in
-    let test = c.if-cycle-cycle.true in
+    let test = c.if-cycle.true in
     let early : c.args.cycle < saved.state.cycle = omega arith in
     not_chosen _ _ c.args.file.now c.args.name.now (look_from_or c.args.name.now c.args.cycle) c.in-Ok.network _ _ _ _ _ c.in-Ok.ensures.ok c.in-Ok.ensures.held saved.state _ _ _ c.in-Ok-read_saved.ensures.read
     (look_too_early c.args.name.now c.args.cycle c.in-Ok.network saved.state early) c.tell-2.ensures
@@ -30,7 +30,7 @@ returns-then-cycle-limit-clause-ok g c =
     let saved : SavedAt = c.in-Ok-read_saved.saved in
     let at : c.cycle.result ≡ saved.state.cycle = c.cycle.ensures ∙ ap (λ (a : SavedAt). a.floor) c.in-Ok-read_saved.ensures.fresh.is in
     let limit : c.limit.result ≡ c.in-Ok.network.topo.limit = c.limit.ensures.value ∙ ap (λ (t : Topology). t.limit) c.lawful_topo.ensures.value in
-    let first = c.if-cycle-cycle.false in
+    let first = c.if-cycle.false in
     let test = c.if-cycle-limit.true in
     let from : saved.state.cycle ≤ c.args.cycle = omega arith in
     let to : c.args.cycle ≤ c.in-Ok.network.topo.limit = omega arith in
@@ -42,7 +42,7 @@ returns-then-cycle-limit-clause-look g c =
     let saved : SavedAt = c.in-Ok-read_saved.saved in
     let at : c.cycle.result ≡ saved.state.cycle = c.cycle.ensures ∙ ap (λ (a : SavedAt). a.floor) c.in-Ok-read_saved.ensures.fresh.is in
     let limit : c.limit.result ≡ c.in-Ok.network.topo.limit = c.limit.ensures.value ∙ ap (λ (t : Topology). t.limit) c.lawful_topo.ensures.value in
-    let first = c.if-cycle-cycle.false in
+    let first = c.if-cycle.false in
     let test = c.if-cycle-limit.true in
     record { fresh = c.in-Ok-read_saved.ensures.fresh; from = omega arith; to = omega arith }
 
@@ -51,7 +51,7 @@ returns-clause-err g c =
     let saved : SavedAt = c.in-Ok-read_saved.saved in
     let at : c.cycle.result ≡ saved.state.cycle = c.cycle.ensures ∙ ap (λ (a : SavedAt). a.floor) c.in-Ok-read_saved.ensures.fresh.is in
     let limit : c.limit.result ≡ c.in-Ok.network.topo.limit = c.limit.ensures.value ∙ ap (λ (t : Topology). t.limit) c.lawful_topo.ensures.value in
-    let first = c.if-cycle-cycle.false in
+    let first = c.if-cycle.false in
     let test = c.if-cycle-limit.false in
     let from : saved.state.cycle ≤ c.args.cycle = omega arith in
     let over : c.in-Ok.network.topo.limit < c.args.cycle = omega arith in

@@ -8,8 +8,7 @@ use Rattle.command_plans.specs.Parts.{StopsAt, end_at}
 use Rattle.command_plans.specs.Plan.{Give, Plan}
 use Rattle.command_plans.specs.Reading.{Reached}
 use Rattle.command_plans.proofs.Steps.{stopped_behind}
-use Rattle.commands.specs.Plan.{come_or, cut_on_plan, save_on_plan}
-use Rattle.commands.specs.Parts.{HasGot}
+use Rattle.commands.specs.Plan.{come_or, cut_on_plan}
 use Rattle.commands.specs.Texts.{look_on_text}
 use Rattle.commands.proofs.Coming.{come_is, has_come, then_got, then_stopped}
 use Rattle.commands.proofs.looks.read_saved_on.Goals as goal
@@ -36,9 +35,9 @@ returns-in-Ok-come_to-clause-ok g c =
     let begun : c.cycle.result ≡ at.1.state.cycle = c.cycle.ensures ∙ ap (λ (a : SavedAt). a.floor) c.in-Ok.ensures.cut.fresh.is in
     let later : end ≡ at.1.state.cycle + c.args.epochs * epoch = ap (λ (n : ℕ). n + c.args.epochs * epoch) begun in
     let come = subst (λ (n : ℕ). Reached (g.S.Store.held c.args.store.now) (come_or c.args.name.now at.0 at.1.state n) (Give (look_on_text at.0 at.1.state end))) later (c.in-Ok-come_to.ensures.read _ (record { faults = 0; failed = [] })).1 in
-    subst (λ (text : List ℕ). HasGot (g.S.Store.held c.args.store.now) (save_on_plan c.args.file.now c.args.epochs c.args.name.now) _ _ _ _ text)
-    (come_is at.0 at.1.state end c.in-Ok-come_to.come c.in-Ok-come_to.ensures.come)
-    (then_got _ (cut_on_plan c.args.file.now c.args.epochs c.args.name.now) (next c.args.name.now c.args.epochs) (at.0, at.1.state) _ _ _ _ c.in-Ok.ensures.ok _ come)
+    then_got _ (cut_on_plan c.args.file.now c.args.epochs c.args.name.now) (next c.args.name.now c.args.epochs) (at.0, at.1.state) _ _ _ _ c.in-Ok.ensures.ok
+    (look_on_text at.0 at.1.state end) (look_on_text at.0 c.in-Ok-come_to.come.state c.in-Ok-come_to.come.floor)
+    (come_is at.0 at.1.state end c.in-Ok-come_to.come c.in-Ok-come_to.ensures.come) come
 
 pub returns-in-Ok-come_to-clause-come : goal.returns-in-Ok-come_to-clause-come
 returns-in-Ok-come_to-clause-come g c =
