@@ -84,10 +84,10 @@ one_save files later first next more whole look calls =
     let last : calls.last ≡ state_text (saved_at network l) = w.is ∙ ap (λ (s : ScenarioOf). save_text s (calls.epochs + calls.further)) one in
     record {
       next_is = ap (λ o. verdict later (plan_for o)) calls.next_asks
-          ∙ next_accepted later calls.file calls.state calls.further network state (calls.kept ∙ c.accepted_is) read early fits
+          ∙ next_accepted later calls.file calls.state calls.further network state (calls.unchanged ∙ c.accepted_is) read early fits
           ∙ ap Accepted (ap state_text saved_there ∙ sym last);
       rows = head_on_text network state calls.further;
-      more_is = ap (λ o. verdict later (plan_for o)) calls.more_asks ∙ more_accepted later calls.file calls.state calls.further network state (calls.kept ∙ c.accepted_is) read early;
+      more_is = ap (λ o. verdict later (plan_for o)) calls.more_asks ∙ more_accepted later calls.file calls.state calls.further network state (calls.unchanged ∙ c.accepted_is) read early;
       look_is = ap (λ o. verdict files (plan_for o)) calls.look_asks
           ∙ look_accepted files calls.file l network c.accepted_is (le-leb l network.topo.limit (omega (arith, below)))
           ∙ ap Accepted (sym last);

@@ -52,7 +52,7 @@ pub record AreInTurn (files later : Files) (first next more whole look : List (L
   pub accepted : verdict files (plan first) ≡ Accepted saved
   pub whole_is : verdict files (plan whole) ≡ Accepted last
   pub written : later state ≡ Some saved
-  pub kept : verdict later (network_plan file) ≡ verdict files (network_plan file)
+  pub unchanged : verdict later (network_plan file) ≡ verdict files (network_plan file)
 
 -- they are all accepted, and what the saves in turn and `look` write is what the last `save` writes
 pub record AreOneSave (files later : Files) (next more look : List (List ℕ)) (last : List ℕ) : Type 0 where

@@ -23,7 +23,7 @@ returns-then-cycle-clause-err g c =
     let test = c.if-cycle.true in
     let early : c.args.cycle < saved.state.cycle = omega arith in
     not_chosen _ _ c.args.file.now c.args.name.now (look_from_or c.args.name.now c.args.cycle) c.in-Ok.network _ _ _ _ _ c.in-Ok.ensures.ok c.in-Ok.ensures.held saved.state _ _ _ c.in-Ok-read_saved.ensures.read
-    (look_too_early c.args.name.now c.args.cycle c.in-Ok.network saved.state early) c.tell-2.ensures
+    (look_too_early c.args.name.now c.args.cycle c.in-Ok.network saved.state early) c.tell-then-cycle.ensures
 
 pub returns-then-cycle-limit-clause-ok : goal.returns-then-cycle-limit-clause-ok
 returns-then-cycle-limit-clause-ok g c =
@@ -56,4 +56,4 @@ returns-clause-err g c =
     let from : saved.state.cycle ≤ c.args.cycle = omega arith in
     let over : c.in-Ok.network.topo.limit < c.args.cycle = omega arith in
     not_chosen _ _ c.args.file.now c.args.name.now (look_from_or c.args.name.now c.args.cycle) c.in-Ok.network _ _ _ _ _ c.in-Ok.ensures.ok c.in-Ok.ensures.held saved.state _ _ _ c.in-Ok-read_saved.ensures.read
-    (look_past_end c.args.name.now c.args.cycle c.in-Ok.network saved.state from over) c.tell-3.ensures
+    (look_past_end c.args.name.now c.args.cycle c.in-Ok.network saved.state from over) c.tell-2.ensures
