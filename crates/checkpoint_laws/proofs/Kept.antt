@@ -68,7 +68,7 @@ module _ (sc : ScenarioOf) (c : ℕ) (ok : IsScenario sc) (images : AreImages sc
         (λ k none low.
         let few : (node_at (fleet_of sc) k d).count ≤ d = (node_in sc ok images k d last).count in
         let most : (node_at (fleet_of sc) k d).count ≤ LAST_CYCLE = omega (arith, few, last, ok.topo.ranges.limit_to) in
-        ap (λ (u : NodeState). nat_le u.count LAST_CYCLE) (node_there k low) ∙ le-leb (node_at (fleet_of sc) k d).count LAST_CYCLE most)
+        ap (λ (u : NodeState). nat_le u.count LAST_CYCLE) (node_there k (omega (arith, low))) ∙ le-leb (node_at (fleet_of sc) k d).count LAST_CYCLE most)
 
     abbrev parts_in : Fleet NodeState Row → ℕ → NodeOf
     parts_in f k = parts_of (node_at f k d)
