@@ -83,7 +83,7 @@ loop-turn-preserved g c =
     let least = c.min.ensures in
     let takes = subst (λ (u : Topology). Takes node_kind u t.number drop c.args.end v c.loop-turn.log.sends w c.advance.new.log.sends) own c.in_ok-advance.ensures in
     record {
-      flight = flight_on f steady c.args.floor c.args.end c.args.hold vs c.loop-turn.log.sends fl t.number v t.low c.lookahead-ahead.result l c.index_mut.ensures.value live b.low c.lookahead-ahead.ensures.some each near w c.advance.new.log.sends takes;
+      flight = flight_on f steady c.args.floor c.args.end c.args.hold vs c.loop-turn.log.sends fl t.number v t.low c.lookahead-ahead.result l c.index_mut.ensures.value live b.low c.lookahead-ahead.ensures.some each near drop (omega (arith, least)) (omega (arith, least)) w c.advance.new.log.sends takes;
       turn = subst (λ (us : List (Timed NodeState Row)). IsTurn node_kind c.args.end c.lookahead-ahead.result us c.next_turn-turn.result) c.deref-in-Some.ensures.value c.next_turn-turn.ensures;
     }
 
