@@ -1,9 +1,9 @@
 -- One node that runs by itself, cycle after cycle, where what it hears in each cycle is given.
-use Rattle.std.proofs.Common.{◌≡◌, ◌⊎◌, inl, inr, ℕ, zero, suc, ◌+◌, Bool, true, false, List, ◌++◌, refl}
+use Rattle.std.proofs.Common.{◌≡◌, ◌⊎◌, inl, inr, ℕ, ◌+◌, Bool, true, false, List, ◌++◌, refl}
 use Rattle.air_base.specs.declared.air.Heard.{Heard}
 use Rattle.air_base.specs.declared.air.Send.{Send}
 use Rattle.air_base.specs.Each.{each_below}
-use Rattle.air_base.specs.NodeKind.{NodeKind, ticked, ticked_rows}
+use Rattle.air_base.specs.NodeKind.{NodeKind, ticked_rows}
 use Rattle.air_base.specs.NodeRun.{Timed}
 use Rattle.world_core.specs.Order.{send_of}
 use Rattle.fleet_flight.specs.Alone.{alone}

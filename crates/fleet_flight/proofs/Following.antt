@@ -1,16 +1,17 @@
 -- One node that runs by itself, cycle by cycle, and what is seen of it.
-use Rattle.std.proofs.Common.{◌≡◌, ◌⊎◌, inl, inr, ℕ, zero, suc, ◌+◌, ◌-◌, ◌<◌, ◌≤◌, Bool, true, false, cond, ◌==◌, Option, Some, None, is_some, not, ◌&&◌, List, [], ◌∷◌, ◌++◌, length, refl, sym, subst, ◌∙◌, ap, arith, append-nil, append_assoc, add-zero}
-use Rattle.std.specs.Prelude.{slice_index, slice_index_or}
+use Rattle.std.proofs.Common.{◌≡◌, ℕ, zero, suc, ◌+◌, ◌-◌, ◌<◌, ◌≤◌, true, false, ◌==◌, Option, None, is_some, not, List, [], ◌∷◌, ◌++◌, length, refl, sym, subst, ◌∙◌, ap, arith, append-nil, append_assoc}
+use Rattle.std.specs.Prelude.{slice_index, slice_index_or, slice_set}
+use Rattle.std.proofs.lemmas.List.{get_or-set_other, get_or-set_same}
+use native.Mathlib.Decide.{ℕ_discrete}
+use Rattle.fleet_flight.proofs.EachNode.{one_more}
 use Rattle.std.proofs.lemmas.Bool.{false≢true}
 use Rattle.std.proofs.lemmas.Bool.Decides.{nat_tests}
-use Rattle.air_base.specs.Each.{each_below}
 use Rattle.air_base.specs.NodeKind.{NodeKind, ticked}
 use Rattle.air_base.specs.NodeRun.{Timed, AllQuiet, Asks, Rests, Sends, Stops, answered, passed}
 use Rattle.air_base.specs.declared.air.Heard.{Heard}
 use Rattle.air_base.specs.declared.air.Send.{Send}
 use Rattle.air_base.proofs.Each.{each_none, each_same}
 use Rattle.board_io.specs.Cycle.{timers_leap}
-use Rattle.board_io.specs.declared.board.Board.{Board}
 use Rattle.node_core.specs.Cycle.{begins, begun_at, node_kind}
 use Rattle.node_core.specs.Pace.Midway.{OnlyRests, rested}
 use Rattle.node_core.specs.State.{NodeState}
@@ -21,7 +22,7 @@ use Rattle.node_places.specs.declared.Place.{Place}
 use Rattle.node_places.specs.declared.Spot.{Spot}
 use Rattle.node_places.specs.declared.Spot.TheVariants as spot
 use Rattle.fleet_flight.specs.Alone.{alone}
-use Rattle.fleet_flight.specs.Shadows.{AreBytes, Goes, IsShadow, IsSpot, seen_along, seen_of_all}
+use Rattle.fleet_flight.specs.Shadows.{AreBytes, Goes, IsShadow, IsSpot, Ticks, seen_along, seen_first, seen_of_all}
 use Rattle.fleet_flight.specs.declared.shadow.Shadow.{Shadow}
 use Rattle.std.specs.List.{All}
 use Rattle.fleet_flight.specs.Watched.{byte_at, byte_of, no_place, seen_at, seen_by, seen_from}
@@ -32,6 +33,10 @@ module _ {S R : Type 0} (m : NodeKind S R) (h : ℕ → Heard) where
   pub alone_none : (t : ℕ) (s : S) → alone m h t 0 s ≡ s
   unfolding alone
   alone_none t s = refl
+
+  passed_none : (t : ℕ) (s : S) → passed m t 0 s ≡ s
+  unfolding passed
+  passed_none t s = refl
 
   pub alone_one : (t : ℕ) (s : S) → alone m h t 1 s ≡ ticked m t s (h t)
   unfolding alone
@@ -80,10 +85,6 @@ module _ {S R : Type 0} (m : NodeKind S R) (h : ℕ → Heard) where
         let from = r.rests.comes.later in
         by_case (w.cycle - v.cycle) refl
       where
-        passed_none : (t : ℕ) (s : S) → passed m t 0 s ≡ s
-        unfolding passed
-        passed_none t s = refl
-
         by_case : (n : ℕ) → n ≡ w.cycle - v.cycle → Rests m v (v.cycle + 1) w
         by_case zero e =
             let same : w.state ≡ v.state = r.rests.comes.state ∙ (ap (λ (n : ℕ). passed m v.cycle n v.state) (sym e) ∙ passed_none v.cycle v.state) in
@@ -92,6 +93,31 @@ module _ {S R : Type 0} (m : NodeKind S R) (h : ℕ → Heard) where
             let from = r.rests.comes.later in
             let at : w.cycle ≡ v.cycle + 1 = omega arith in
             subst (λ (c : ℕ). Rests m v c w) at r.rests
+
+-- ---- a cycle of this kind of node, by how a run up to its end answers
+module _ (h : ℕ → Heard) (v w : Timed NodeState Row) (going : is_some v.state.stop ≡ false) (to : ℕ) (next : to ≡ v.cycle + 1) where
+  pub ticks_rests : Rests node_kind v to w → Ticks v (h v.cycle) w
+  ticks_rests r =
+      let here = subst (λ (c : ℕ). Rests node_kind v c w) next r in
+      record { cycle = here.cycle; calm = here.asking; state = one_rests node_kind h v w here }
+
+  pub ticks_stops : w.cycle ≤ to → Stops node_kind v w → Ticks v (h v.cycle) w
+  ticks_stops lim r = ticks_rests (subst (λ (c : ℕ). Rests node_kind v c w) (sym next) (one_stops node_kind h v w going (omega arith) r))
+
+  pub ticks_sends : (c b : ℕ) → c < to → Sends node_kind v c b w → Ticks v (h v.cycle) w
+  ticks_sends c b lt r =
+      let both = one_sends node_kind h v w c b (omega arith) r in
+      record { cycle = both.0; calm = ap (λ (z : Timed NodeState Row). z.asking) r.after; state = both.1 }
+
+  pub ticks_asks : (c : ℕ) → c < to → Asks node_kind v c w → (x : Heard) → x ≡ h v.cycle → (u : Timed NodeState Row) → u ≡ answered node_kind w x → Ticks v (h v.cycle) u
+  ticks_asks c lt r x same u after =
+      let there = asks_there node_kind h v w c (omega arith) r in
+      let at : u.cycle ≡ w.cycle + 1 = ap (λ (z : Timed NodeState Row). z.cycle) after in
+      record {
+        cycle = omega arith;
+        calm = ap (λ (z : Timed NodeState Row). z.asking) after;
+        state = ap (λ (z : Timed NodeState Row). z.state) after ∙ (ap (node_kind.finished w.cycle w.state) same ∙ one_asks node_kind h v w steady.apart c (omega arith) r);
+      }
 
 -- ---- what is seen
 module _ (h : ℕ → Heard) (ps : List Place) where
@@ -231,3 +257,62 @@ module _ (h : ℕ → Heard) where
         places = refl;
       } in
       subst (λ (l : ℕ). Goes h t l v cs w ds) e (goes_add t n j v w w cs ds ds g more)
+
+  -- by a cycle
+  pub goes_one : (v w : Shadow) (cs ds : List Change) → w.node.state ≡ ticked node_kind v.node.cycle v.node.state (h v.node.cycle) → ds ≡ cs ++ seen_by v.places.items v.node.cycle v.node.state w.node.state
+      → w.number ≡ v.number → w.places ≡ v.places → Goes h v.node.cycle 1 v cs w ds
+  goes_one v w cs ds state changes number places =
+      let t : ℕ = v.node.cycle in
+      let s : NodeState = v.node.state in
+      let there : w.node.state ≡ alone node_kind h t 1 s = state ∙ sym (alone_one node_kind h t s) in
+      record {
+        state = there;
+        changes = changes ∙ ap (λ (l : List Change). cs ++ l) (ap (seen_by v.places.items t s) there ∙ sym (along_one h v.places.items t s));
+        number = number;
+        places = places;
+      }
+
+  -- by a rest, and a cycle behind it
+  pub turn_goes : (v w u : Shadow) (cs ds : List Change) → IsShadow v → Rests node_kind v.node w.node.cycle w.node → OnlyRests v.node.cycle (w.node.cycle - v.node.cycle) v.node.state → w.number ≡ v.number → w.places ≡ v.places
+      → u.node.cycle ≡ w.node.cycle + 1 → Goes h w.node.cycle 1 w cs u ds → Goes h v.node.cycle (u.node.cycle - v.node.cycle) v cs u ds
+  turn_goes v w u cs ds shadow rests only number places after step =
+      let n : ℕ = w.node.cycle - v.node.cycle in
+      let from = rests.comes.later in
+      let at : w.node.cycle ≡ v.node.cycle + n = omega arith in
+      let e : n + 1 ≡ u.node.cycle - v.node.cycle = omega arith in
+      subst (λ (l : ℕ). Goes h v.node.cycle l v cs u ds) e
+      (goes_add v.node.cycle n 1 v w u cs cs ds (goes_rest v w cs shadow rests only number places) (subst (λ (c : ℕ). Goes h c 1 w cs u ds) at step))
+
+  -- turn by turn
+  pub follow_goes : (floor : ℕ) (v w u : Shadow) (cs ds es : List Change) → Goes h floor (w.node.cycle - floor) v cs w ds → floor ≤ w.node.cycle → w.node.cycle ≤ u.node.cycle
+      → Goes h w.node.cycle (u.node.cycle - w.node.cycle) w ds u es → Goes h floor (u.node.cycle - floor) v cs u es
+  follow_goes floor v w u cs ds es a from up b =
+      let n : ℕ = w.node.cycle - floor in
+      let j : ℕ = u.node.cycle - w.node.cycle in
+      let at : w.node.cycle ≡ floor + n = omega arith in
+      let e : n + j ≡ u.node.cycle - floor = omega arith in
+      subst (λ (l : ℕ). Goes h floor l v cs u es) e (goes_add floor n j v w u cs ds es a (subst (λ (c : ℕ). Goes h c j w ds u es) at b))
+
+-- ---- place by place
+module _ (ps : List Place) (xs : List ℕ) (begun : Option ℕ) (t : ℕ) (u : NodeState) where
+  abbrev here : ℕ → List Change
+  here j = seen_from (slice_index_or ps j no_place).spot t (slice_index_or ps j no_place).node (slice_index xs j) begun u
+
+  pub one_place : (k was : ℕ) (olds mids news : List Change) → was ≡ slice_index xs k → mids ≡ olds ++ seen_first k ps xs begun t u
+      → news ≡ mids ++ seen_from (slice_index_or ps k no_place).spot t (slice_index_or ps k no_place).node was begun u → news ≡ olds ++ seen_first (k + 1) ps xs begun t u
+  one_place k was olds mids news same before more =
+      more
+      ∙ ((λ i. before i ++ seen_from (slice_index_or ps k no_place).spot t (slice_index_or ps k no_place).node (same i) begun u)
+      ∙ (append_assoc olds (seen_first k ps xs begun t u) (here k) ∙ ap (λ (l : List Change). olds ++ l) (sym (one_more k here here (λ j l. refl)))))
+
+-- one byte more of a list is as it is to be, and the others are as they were
+pub byte_done : (ps : List Place) (u : NodeState) (xs : List ℕ) (k x : ℕ) → k < length xs → x ≡ byte_of (slice_index_or ps k no_place).spot u → ((j : ℕ) → j < k → slice_index xs j ≡ byte_of (slice_index_or ps j no_place).spot u)
+    → (j : ℕ) → j < k + 1 → slice_index (slice_set xs k x) j ≡ byte_of (slice_index_or ps j no_place).spot u
+byte_done ps u xs k x lt e before j l = by_case (ℕ_discrete j k)
+  where
+    by_case : Dec (j ≡ k) → slice_index (slice_set xs k x) j ≡ byte_of (slice_index_or ps j no_place).spot u
+    by_case (yes same) = ap (slice_index (slice_set xs k x)) same ∙ (get_or-set_same xs k x 0 lt ∙ (e ∙ ap (λ (i : ℕ). byte_of (slice_index_or ps i no_place).spot u) (sym same)))
+    by_case (no ne) = get_or-set_other xs k j x 0 ne ∙ before j (omega arith)
+
+pub byte_left : (xs ys : List ℕ) (k x : ℕ) → ((j : ℕ) → k ≤ j → slice_index xs j ≡ slice_index ys j) → (j : ℕ) → k + 1 ≤ j → slice_index (slice_set xs k x) j ≡ slice_index ys j
+byte_left xs ys k x before j l = get_or-set_other xs k j x 0 (λ e. absurd (omega arith)) ∙ before j (omega arith)

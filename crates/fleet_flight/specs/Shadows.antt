@@ -1,8 +1,9 @@
 -- Nodes that run by themselves behind the others, to be watched. These are words of contracts, and no part of what is
 -- seen.
-use Rattle.std.specs.Prelude.{◌≡◌, ◌⊎◌, ℕ, suc, ◌+◌, ◌<◌, ◌≤◌, true, false, is_some, Option, List, [], ◌++◌, length, map, slice_index, slice_index_or}
+use Rattle.std.specs.Prelude.{◌≡◌, ℕ, suc, ◌+◌, ◌<◌, ◌≤◌, false, Option, List, [], ◌++◌, length, map, slice_index, slice_index_or}
 use Rattle.std.specs.List.{All}
 use Rattle.air_base.specs.Each.{each_below}
+use Rattle.air_base.specs.NodeKind.{ticked}
 use Rattle.air_base.specs.NodeRun.{Timed}
 use Rattle.air_base.specs.declared.air.Heard.{Heard}
 use Rattle.air_base.specs.declared.air.Send.{Send}
@@ -47,6 +48,12 @@ ear_of t xs k c = heard t xs k c
 -- what is seen of the places in n cycles from cycle t on, of a node that hears so
 abbrev pub seen_along : (ℕ → Heard) → List Place → ℕ → ℕ → NodeState → List Change
 seen_along h ps t n s = each_below n (λ i. seen_by ps (t + i) (alone node_kind h t i s) (alone node_kind h t (suc i) s))
+
+-- a node at v made its next cycle, in which it hears this, and is at w
+pub record Ticks (v : Timed NodeState Row) (h : Heard) (w : Timed NodeState Row) : Type 0 where
+  pub cycle : w.cycle ≡ v.cycle + 1
+  pub calm : w.asking ≡ false
+  pub state : w.state ≡ ticked node_kind v.cycle v.state h
 
 -- a shadow between two cycles
 pub record IsShadow (v : Shadow) : Type 0 where

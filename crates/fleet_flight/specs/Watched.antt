@@ -51,7 +51,7 @@ seen_at p t s u = seen_from p.spot t p.node (byte_of p.spot s) (begun_at s) u
 
 -- some place, where there is none
 abbrev pub no_place : Place
-no_place = record { node = 0; spot = spot.At 0 }
+no_place = record { node = 0; spot = spot.Byte 0 }
 
 -- at places of one node, in their order
 abbrev pub seen_by : List Place → ℕ → NodeState → NodeState → List Change

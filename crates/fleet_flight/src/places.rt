@@ -42,12 +42,7 @@ pub fn byte_of(node: &Node, spot: Spot) -> u8
 }
 
 // Puts a change behind the others, where there is one.
-fn put(
-    changes: &mut Vec<Change>,
-    cycle: u64,
-    node: u8,
-    seen: Seen,
-) -> Result<(), NoMemory>
+fn put(changes: &mut Vec<Change>, cycle: u64, node: u8, seen: Seen) -> Result<(), NoMemory>
     ensures { OnOk result (changes.new.items ≡ changes.old.items ++ seen_if true cycle node seen) }
 {
     if changes.push(Change { cycle, node, seen }).is_err() {

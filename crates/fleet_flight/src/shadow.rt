@@ -1,13 +1,11 @@
 // Nodes that run by themselves behind the others, to be watched.
-ghost use Rattle.std.specs.Prelude.{◌≡◌, ◌⊎◌, ◌≤◌, ◌<◌, ◌+◌, ◌-◌, [], true, false, None, is_some, OnOk};
+ghost use Rattle.std.specs.Prelude.{◌≡◌, ◌≤◌, ◌<◌, ◌+◌, ◌-◌, false, None, OnOk};
 ghost use Rattle.std.specs.List.{All};
 ghost use Rattle.air_base.specs.Bounds.{LAST_CYCLE};
-ghost use Rattle.air_base.specs.NodeKind.{ticked};
-ghost use Rattle.world_core.specs.Heard.{heard};
 ghost use Rattle.world_core.specs.Topology.{IsInside};
 ghost use Rattle.node_core.specs.Cycle.{node_kind};
 ghost use Rattle.fleet_flight.specs.Paused.{HasRun};
-ghost use Rattle.fleet_flight.specs.Shadows.{Goes, IsShadow, ear_of};
+ghost use Rattle.fleet_flight.specs.Shadows.{Goes, IsShadow, Ticks, ear_of};
 
 use crate::places::compare;
 use avr_base::NoMemory;
@@ -39,22 +37,25 @@ impl Drop for Shadow {
     }
 }
 
-// A cycle of a node that is not stopped; what it hears in it is found in the record. Its rows are dropped.
+// A cycle of a node that is not stopped; what it hears in it is found in the record.
 fn one_cycle(node: &mut Node, number: u8, topo: &Topo, log: &SendLog) -> Result<(), NoMemory>
     requires going { node.old.state.stop ≡ None }
     requires calm { node.old.asking ≡ false }
     requires early { node.old.cycle < LAST_CYCLE }
     requires inside { All (λ x. IsInside topo.now x.node x.cycle) log.now.sends }
-    ensures { OnOk result (node.new ≡ record { cycle = node.old.cycle + 1; asking = false; state = ticked node_kind node.old.cycle node.old.state (heard topo.now log.now.sends number node.old.cycle); rows = [] }) }
+    ensures { OnOk result (Ticks node.old (ear_of topo.now log.now.sends number node.old.cycle) node.new) }
 {
     let cycle = node.cycle();
     match node.run_until(cycle + 1) {
-        Reached::NoMemory => return Err(NoMemory),
-        Reached::Ask { .. } => node.answer(log.heard(topo, number, cycle)),
-        Reached::Sent { .. } | Reached::Cycle | Reached::Stopped => {}
+        Reached::NoMemory => Err(NoMemory),
+        Reached::Ask { .. } => {
+            node.answer(log.heard(topo, number, cycle));
+            Ok(())
+        }
+        Reached::Sent { .. } => Ok(()),
+        Reached::Cycle => Ok(()),
+        Reached::Stopped => Ok(()),
     }
-    let _ = node.take_rows();
-    Ok(())
 }
 
 // Its next cycle, if it is not stopped, and what is seen in it.
@@ -75,6 +76,7 @@ fn step(
     let cycle = shadow.node.cycle();
     let begun = shadow.node.begun();
     one_cycle(&mut shadow.node, shadow.number, topo, log)?;
+    let _ = shadow.node.take_rows();
     compare(
         &shadow.places,
         &mut shadow.last,
@@ -82,7 +84,34 @@ fn step(
         cycle,
         &shadow.node,
         changes,
-    )
+    )?;
+    Ok(())
+}
+
+// A rest, up to the cycle `end` at most, and the cycle behind it where that is before.
+fn turn(
+    shadow: &mut Shadow,
+    topo: &Topo,
+    log: &SendLog,
+    end: u64,
+    changes: &mut Vec<Change>,
+) -> Result<(), NoMemory>
+    requires going { shadow.old.node.state.stop ≡ None }
+    requires more { shadow.old.node.cycle < end }
+    requires early { end ≤ LAST_CYCLE }
+    requires shadow { IsShadow shadow.old }
+    requires inside { All (λ x. IsInside topo.now x.node x.cycle) log.now.sends }
+    ensures goes { OnOk result (Goes (ear_of topo.now log.now.sends shadow.old.number) shadow.old.node.cycle (shadow.new.node.cycle - shadow.old.node.cycle) shadow.old changes.old.items shadow.new changes.new.items) }
+    ensures shadow { OnOk result (IsShadow shadow.new) }
+    ensures moves { OnOk result (shadow.old.node.cycle < shadow.new.node.cycle) }
+    ensures within { OnOk result (shadow.new.node.cycle ≤ end) }
+{
+    shadow.node.rest_until(end);
+    if shadow.node.cycle() < end {
+        step(shadow, topo, log, changes)?;
+        return Ok(());
+    }
+    Ok(())
 }
 
 /// Runs a shadow from the cycle `floor`, where it stands or before which it stopped, to the cycle `end`, and puts behind
@@ -104,11 +133,11 @@ pub fn follow(
     ensures shadow { OnOk result (IsShadow shadow.new) }
     ensures has { OnOk result (HasRun node_kind end shadow.new.node) }
 {
-    while shadow.node.cycle() < end && shadow.node.stopped().is_none() {
-        shadow.node.rest_until(end);
-        if shadow.node.cycle() < end {
-            step(shadow, topo, log, changes)?;
+    while shadow.node.cycle() < end {
+        if shadow.node.stopped().is_some() {
+            return Ok(());
         }
+        turn(shadow, topo, log, end, changes)?;
     }
     Ok(())
 }
