@@ -1,16 +1,17 @@
 // Nodes that run by themselves behind the others, to be watched.
-ghost use Rattle.std.specs.Prelude.{◌≡◌, ◌≤◌, ◌<◌, ◌+◌, ◌-◌, false, None, OnOk};
+ghost use Rattle.std.specs.Prelude.{◌≡◌, ◌≤◌, ◌<◌, ◌+◌, ◌-◌, [], false, None, IfOk, OnOk};
 ghost use Rattle.std.specs.List.{All};
 ghost use Rattle.air_base.specs.Bounds.{LAST_CYCLE};
 ghost use Rattle.world_core.specs.Topology.{IsInside};
 ghost use Rattle.node_core.specs.Cycle.{node_kind};
 ghost use Rattle.fleet_flight.specs.Paused.{HasRun};
-ghost use Rattle.fleet_flight.specs.Shadows.{Goes, IsShadow, Ticks, ear_of};
+ghost use Rattle.fleet_flight.specs.Shadows.{AreBytes, Goes, IsShadow, IsSpot, Ticks, ear_of, group_of};
 
-use crate::places::compare;
+use crate::places::{byte_of, compare};
 use avr_base::NoMemory;
 use node_core::{Node, Reached};
 use node_places::{Change, Place};
+use std::alloc::Global;
 use world_core::{SendLog, Topo};
 
 /// A second node in the state of one of a run, that is watched: it goes the same way behind the run, cycle by cycle, and
@@ -34,6 +35,45 @@ impl Drop for Shadow {
             places: _,
             last: _,
         } = self;
+    }
+}
+
+// What is looked at of each place before the next cycle.
+fn bytes_of(alloc: Global, node: &Node, places: &[Place]) -> Result<Vec<u8>, NoMemory>
+    requires { All (λ p. IsSpot p.spot) places.now }
+    ensures { IfOk result (λ v. AreBytes places.now node.now.state v.items) }
+{
+    let mut bytes = Vec::new(alloc);
+    for place in places {
+        if bytes.push(byte_of(node, place.spot)).is_err() {
+            return Err(NoMemory);
+        }
+    }
+    Ok(bytes)
+}
+
+impl Shadow {
+    /// The shadow of node `number`, of which `node` is another one in the same state and without rows, at these places.
+    pub fn new(
+        alloc: Global,
+        node: Node,
+        number: u8,
+        places: Vec<Place>,
+    ) -> Result<Shadow, NoMemory>
+        requires calm { node.asking ≡ false }
+        requires rows { node.rows ≡ [] }
+        requires spots { All (λ p. IsSpot p.spot) places.items }
+        ensures shadow { IfOk result (λ v. IsShadow v) }
+        ensures node { IfOk result (λ v. v.node ≡ node) }
+        ensures group { IfOk result (λ v. group_of v ≡ record { node = number; places = places.items }) }
+    {
+        let last = bytes_of(alloc, &node, &places)?;
+        Ok(Shadow {
+            node,
+            number,
+            places,
+            last,
+        })
     }
 }
 
