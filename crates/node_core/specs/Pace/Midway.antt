@@ -21,7 +21,8 @@ use Rattle.serial_ports.specs.Script.{script_byte}
 use Rattle.node_core.specs.Inside.{IsGoing}
 use Rattle.node_core.specs.Shown.{shown}
 use Rattle.node_core.specs.State.{NodeState}
-use Rattle.node_core.specs.Cycle.{cpu_cycle, cpu_rows, instructed, instructed_rows, node_kind, row}
+use Rattle.board_io.specs.Cycle.{timers_leap}
+use Rattle.node_core.specs.Cycle.{begins, cpu_cycle, cpu_rows, instructed, instructed_rows, node_kind, row}
 
 -- from v on the node came through quiet cycles to the beginning of cycle c, ran there, and is now at u with rows k
 pub record IsMidway (v : Timed NodeState Row) (c : ℕ) (u : NodeState) (k : List Row) : Type 0 where
@@ -41,8 +42,18 @@ pub record IsActed (n : ℕ) (u : NodeState) (k : List Row) (old new : Machine) 
   pub room : vec_capacity new.rows ≡ vec_capacity old.rows
   pub clock : new.bus.io.clock ≡ old.bus.io.clock
 
+-- a node after i cycles of a wait or of sleep, from cycle t on
+abbrev pub rested : ℕ → ℕ → NodeState → NodeState
+rested t i s = record s { wait = s.wait - i; board = timers_leap t i s.board }
+
+-- n cycles from cycle t on that a node in state s only waits or sleeps, and the timers alone move
+pub record OnlyRests (t n : ℕ) (s : NodeState) : Type 0 where
+  pub still : (i : ℕ) → i ≤ n → passed node_kind t i s ≡ rested t i s
+  pub none : (i : ℕ) → i < n → begins (rested t i s) ≡ false
+
 -- n cycles from cycle t on in which it only waited or slept
 pub record IsRested (t n : ℕ) (old new : Machine) : Type 0 where
+  pub only : OnlyRests t n (shown old)
   pub quiet : AllQuiet node_kind t n (shown old)
   pub state : shown new ≡ passed node_kind t n (shown old)
   pub rows : passed_rows node_kind t n (shown old) ≡ []
