@@ -12,7 +12,7 @@ ghost use Rattle.node_runner.specs.Accepted.{IsAccepted};
 ghost use Rattle.node_runner.specs.Scenario.{IsScenario, ScenarioOf, with_script};
 ghost use Rattle.sample_maker.specs.Sample.{sample};
 ghost use Rattle.serial_ports.specs.Script.{ScriptBytes};
-ghost use Rattle.pieces_law.specs.Pieces.{AreThePieces, IsInPieces};
+ghost use Rattle.pieces_law.specs.Pieces.{AreInTurn, AreOneSave, AreThePieces, IsInPieces};
 
 /// Every network that a call runs is a scenario: one that a command has accepted, which accepted texts give; the same with
 /// the window of `monitor FILE FROM TO`, and with what a move of `sweep` says arrives at a node; that of `node`, whatever
@@ -37,4 +37,12 @@ pub fn pieces_law()
     ensures joined { (files later : Files) (head save resume run : List (List ℕ)) (first rest whole : List ℕ) → IsInPieces files later head save resume run
         → Accepts files (plan head) first → Accepts later (plan resume) rest → Accepts files (plan run) whole
         → first ++ rest ≡ whole }
+{}
+
+/// Where `save FILE N` and `save FILE L` are accepted, L being N and M, so are `save FILE M STATE` and `head FILE M STATE`
+/// over what the first one wrote, and `look` at the end of the L epochs. That `save` and that `look` write what `save FILE
+/// L` writes: by `pieces_law`, what `resume` takes.
+pub fn saves_law()
+    ensures { (files later : Files) (first next more whole look : List (List ℕ)) (calls : AreInTurn files later first next more whole look)
+        → AreOneSave files later next more look calls.last }
 {}
