@@ -25,7 +25,7 @@ static APART: [&str; 3] = ["avrora", "run", "gates_apart.toml"];
 static MAKE: [&str; 3] = ["avrora", "make", "0"];
 
 // All that is done on one thread, one space between words, of which some calls have five with the program's name.
-static ON_ONE: [&str; 14] = [
+static ON_ONE: [&str; 15] = [
     "avrora run --plain gates.toml",
     "avrora node gates_loop.hex 3000",
     "avrora monitor gates.toml",
@@ -36,6 +36,7 @@ static ON_ONE: [&str; 14] = [
     "avrora asm a.s",
     "avrora head sweep.toml 1",
     "avrora save sweep.toml 1",
+    "avrora look sweep.toml 262144",
     "avrora resume sweep.toml sweep.state",
     "avrora head chain.toml 1 chain_1.state",
     "avrora save chain.toml 1 chain_1.state",
