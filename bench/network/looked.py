@@ -3,7 +3,7 @@
 
     bench/network/looked.py PROGRAM [COUNT [FIRST [STEP]]]
 
-Of COUNT drawn networks (100), from number FIRST (0) on, of at most 300 cycles: `PROGRAM look FILE CYCLE` at each STEPth cycle (1),
+Of COUNT drawn networks (100), from number FIRST (0) on, of less than 400 cycles: `PROGRAM look FILE CYCLE` at each STEPth cycle (1),
 and where the run is over. Of as many networks that do something odd about the end of an epoch: `PROGRAM save FILE 1`, which is `look`
 at that cycle, and `PROGRAM look FILE CYCLE STATE` from there at 60 cycles. It ends with counts; where a state differs it tells the
 first line that does, keeps the files, and its exit status is 1.
@@ -22,7 +22,7 @@ from odd_places import networks
 from resumed import first_difference, found_in
 from states import EPOCH, state_text
 
-MOST_CYCLES, BEHIND = 300, 60
+MOST_CYCLES, BEHIND = 400, 60
 
 
 class Looker:

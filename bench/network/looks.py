@@ -11,6 +11,7 @@ import re
 
 from case_lines import folder_of_words
 from checkpoints import Cases as CutCases
+from checkpoints import are_words as are_cut_words
 from draw import hex_text, ring
 from network import MOST_EXECUTED
 from states import EPOCH
@@ -33,12 +34,12 @@ LAST_CYCLE = 1_099_511_627_776
 
 def are_words(words):
     """Whether the program takes these words, of those that are called here."""
+    if words[0] != "look":
+        return are_cut_words(words)
     is_file = [word != "" and word[0] != "-" for word in words[1:]]
-    if not 3 <= len(words) <= 4 or not is_file[0] or len(words) == 4 and not is_file[2]:
+    if not 3 <= len(words) <= 4 or not is_file[0] or not is_file[-1] and len(words) == 4:
         return False
-    if words[0] == "look":
-        return re.fullmatch("[0-9]{1,13}", words[2]) is not None and int(words[2]) <= LAST_CYCLE
-    return re.fullmatch("[0-9]{1,7}", words[2]) is not None and int(words[2]) > 0
+    return re.fullmatch("[0-9]{1,13}", words[2]) is not None and int(words[2]) <= LAST_CYCLE
 
 
 class Cases(CutCases):

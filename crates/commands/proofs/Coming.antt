@@ -1,6 +1,5 @@
 -- States that are written of a run at any of its cycles, and of one from a state on.
-use Rattle.std.proofs.Common.{◌≡◌, ℕ, ◌<◌, ◌≤◌, nat_le, nat_lt, Bool, true, false, if◌then◌else◌, List, refl, sym, subst, ap, ◌∙◌, arith}
-use Rattle.std.proofs.lemmas.Bool.Decides.{nat_tests}
+use Rattle.std.proofs.Common.{◌≡◌, ℕ, ◌<◌, ◌≤◌, nat_le, Bool, true, false, if◌then◌else◌, List, sym, subst, ap}
 use Rattle.checkpoint_text.specs.Onward.{SavedAt, onward}
 use Rattle.checkpoint_text.specs.State.{counts_fit}
 use Rattle.node_runner.specs.Scenario.{ScenarioOf}

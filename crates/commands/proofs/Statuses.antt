@@ -27,7 +27,7 @@ use Rattle.command_plans.specs.declared.trouble.StateCause.TheVariants as cause
 use Rattle.command_plans.specs.declared.status.Status.{Status}
 use Rattle.command_plans.specs.declared.status.Status.TheVariants as case
 use Rattle.command_plans.proofs.Endings.{KeepsWords, ends_written, ends_stopped, keeps_both, keeps_image, keeps_images, keeps_moves, keeps_reached, keeps_scenario, keeps_source, reported_stop, state_is_no_words}
-use Rattle.commands.specs.Plan.{begun_plan, come_or, cut_on_or, cut_on_plan, cut_plan, images_for, look_from_or, look_from_plan, look_on_plan, look_plan, network_plan, plan, plan_for, plan_of, save_on_plan, span_or, span_plan, state_or, state_plan, sweep_plan}
+use Rattle.commands.specs.Plan.{begun_plan, come_or, cut_on_or, cut_on_plan, cut_plan, images_for, look_from_or, look_from_plan, look_plan, network_plan, plan, plan_for, plan_of, span_or, span_plan, state_or, state_plan, sweep_plan}
 use Rattle.commands.specs.TopClause.{TopClause}
 use Rattle.commands.specs.Parts.{JobRead, Prepared, Prepares, Ready, output}
 use Rattle.commands.specs.declared.job.Job.{Job}

@@ -1,6 +1,6 @@
 -- Saves in turn are one save.
-use Rattle.std.proofs.Common.{◌≡◌, ℕ, ◌+◌, ◌*◌, ◌<◌, ◌≤◌, nat_le, nat_lt, Bool, true, if◌then◌else◌, List, length, Some, Result, Ok, sym, ap, ◌∙◌, subst, arith}
-use Rattle.std.proofs.lemmas.Bool.{le-leb, ltb-true, lt-ltb}
+use Rattle.std.proofs.Common.{◌≡◌, ℕ, ◌+◌, ◌*◌, ◌<◌, ◌≤◌, nat_le, nat_lt, Bool, true, if◌then◌else◌, List, Some, sym, ap, ◌∙◌, subst, arith}
+use Rattle.std.proofs.lemmas.Bool.{le-leb, ltb-true}
 use Rattle.world_core.specs.Kept.{epoch}
 use Rattle.node_runner.specs.Accepted.{IsAccepted}
 use Rattle.node_runner.specs.Scenario.{IsScenario, ScenarioOf}
@@ -13,13 +13,13 @@ use Rattle.checkpoint_text.specs.State.{counts_fit, saved_at, saved_from}
 use Rattle.checkpoint_laws.proofs.Kept.{counted, saved_on}
 use Rattle.command_words.specs.Words.{HeadOn, Look, Save, SaveOn}
 use Rattle.command_words.proofs.Forms.{form_of, in_limits}
-use Rattle.command_plans.specs.Plan.{Plan, Give, Refuse, BadState, and_then}
+use Rattle.command_plans.specs.Plan.{Give, Refuse, BadState, and_then}
 use Rattle.command_plans.specs.Reading.{Files, Accepted, verdict}
 use Rattle.command_plans.specs.declared.trouble.StateCause.TheVariants as cause
-use Rattle.commands.specs.Plan.{come_or, cut_on_or, cut_on_plan, look_or, look_plan, network_plan, plan, plan_for, plan_of, state_plan}
+use Rattle.commands.specs.Plan.{come_or, cut_on_or, cut_on_plan, look_or, look_plan, network_plan, plan_for, plan_of, state_plan}
 use Rattle.commands.specs.Texts.{head_on_text, look_on_text, look_text, save_text}
 use Rattle.pieces_law.specs.Pieces.{AreInTurn, AreOneSave}
-use Rattle.pieces_law.proofs.Joined.{IsCut, cut_of, gives, not_long, read_again, state_accepted}
+use Rattle.pieces_law.proofs.Joined.{cut_of, gives, not_long, read_again, state_accepted}
 use Rattle.pieces_law.proofs.Networks.{network_accepted}
 use Rattle.pieces_law.proofs.Verdicts as verdicts
 

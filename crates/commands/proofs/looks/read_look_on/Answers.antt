@@ -1,5 +1,4 @@
 use Rattle.std.proofs.Common.{ℕ, List, []}
-use Rattle.checkpoint_text.specs.Onward.{SavedAt}
 use Rattle.node_runner.specs.Scenario.{ScenarioOf}
 use Rattle.state_text.specs.Text.{StateOf}
 use Rattle.command_plans.specs.Parts.{end_at}
