@@ -21,6 +21,6 @@ pub mod Records
 pub mod Epoch
 -- One node that runs by itself, cycle by cycle, and what is seen of it.
 pub mod Following
--- Shadows of a run's nodes: they hear what the nodes heard, so they go the same way, and what is seen of them is what is
--- seen of the nodes.
+-- Shadows of a run's nodes: they hear what the nodes heard, so they go the same way, and what is seen of them is what
+-- is seen of the nodes.
 pub mod Watching
