@@ -1,7 +1,7 @@
 #!/usr/bin/env bash
 # Speed that no proof tells: bench/probes.sh [PROGRAM] counts host instructions for one AVR instruction of small programs, each of
 # which does one thing (the table below), and compares them with the most that each may take. It proves nothing: PROGRAM is one
-# that was built (that of ./avrora where absent, which proves it first). It takes under two minutes, and says that it is skipped
+# that was built (that of ./avrora where absent, which proves it first). It takes under three minutes, and says that it is skipped
 # where valgrind is missing. Exit status: 0 all take no more, 1 one takes more or fails.
 #
 # Counts hardly vary from run to run or from machine to machine. The most is a tenth above what was counted last; where a change
@@ -58,6 +58,28 @@ store_pre_decrement          27 none: again: | ldi r26, 0 | ldi r27, 2 | ldi r28
 load_displaced               27 none: again: | ldi r26, 0 | ldi r27, 2 | ldi r28, 0 | ldi r29, 3 | ldd r20, Y+5 | ldd r20, Y+5 | ldd r20, Y+5 | ldd r20, Y+5 | ldd r20, Y+5 | ldd r20, Y+5 | ldd r20, Y+5 | ldd r20, Y+5 | ldd r20, Y+5 | ldd r20, Y+5 | ldd r20, Y+5 | ldd r20, Y+5 | rjmp again
 load_flash                   26 none: again: | ldi r30, 0 | ldi r31, 0 | lpm r20, Z+ | lpm r20, Z+ | lpm r20, Z+ | lpm r20, Z+ | lpm r20, Z+ | lpm r20, Z+ | lpm r20, Z+ | lpm r20, Z+ | lpm r20, Z+ | lpm r20, Z+ | lpm r20, Z+ | lpm r20, Z+ | rjmp again
 push_pop                     30 none: ldi r16, 0x10 | out 0x3E, r16 | ldi r16, 0xFF | out 0x3D, r16 | again: | push r20 | pop r20 | push r20 | pop r20 | push r20 | pop r20 | push r20 | pop r20 | push r20 | pop r20 | push r20 | pop r20 | rjmp again
+line_up_registers            29 none: ldi r16, 1 | out 0x33, r16 | out 0x37, r16 | again: | inc r20 | inc r20 | inc r20 | inc r20 | inc r20 | inc r20 | rjmp again
+line_up_long_number          37 none: ldi r16, 1 | out 0x33, r16 | out 0x37, r16 | again: | subi r20, 1 | sbci r21, 0 | add r22, r23 | brne again | rjmp again
+line_up_stack                29 none: ldi r16, 0x10 | out 0x3E, r16 | ldi r16, 0xFF | out 0x3D, r16 | ldi r16, 1 | out 0x33, r16 | out 0x37, r16 | again: | push r20 | pop r20 | lds r20, 0x200 | sts 0x201, r20 | rjmp again
+line_up_sei_cli             108 none: rjmp begin | nop | nop | nop | nop | nop | nop | nop | nop | nop | nop | nop | nop | nop | nop | nop | nop | nop | nop | nop | nop | nop | nop | nop | nop | nop | nop | nop | nop | nop | nop | nop | reti | nop | nop | nop | nop | nop | nop | nop | nop | nop | nop | nop | nop | nop | begin: | ldi r16, 0x10 | out 0x3E, r16 | ldi r16, 0xFF | out 0x3D, r16 | ldi r16, 1 | out 0x33, r16 | out 0x37, r16 | again: | sei | cli | inc r20 | rjmp again
+tifr_four_timers           2902 none: ldi r16, 9 | out 0x33, r16 | out 0x25, r16 | sts 0x8A, r16 | sts 0x2E, r16 | ldi r16, 2 | out 0x31, r16 | out 0x23, r16 | out 0x2A, r16 | ldi r16, 9 | out 0x2E, r16 | ldi r16, 4 | sts 0x86, r16 | ldi r16, 9 | sts 0x8A, r16 | ldi r17, 255 | again: | sts 0x56, r17 | rjmp again
+tcnt1_four_timers           809 none: ldi r16, 9 | out 0x33, r16 | out 0x25, r16 | ldi r16, 2 | out 0x31, r16 | out 0x23, r16 | out 0x2A, r16 | ldi r16, 9 | out 0x2E, r16 | ldi r16, 4 | sts 0x86, r16 | ldi r16, 9 | sts 0x8A, r16 | again: | lds r20, 0x4C | rjmp again
+tifr_ctc_5                  448 none: ldi r16, 9 | out 0x33, r16 | ldi r16, 5 | out 0x31, r16 | ldi r17, 255 | again: | out 0x36, r17 | rjmp again
+tcnt0_ctc_2                 260 none: ldi r16, 9 | out 0x33, r16 | ldi r16, 2 | out 0x31, r16 | again: | in r20, 0x32 | rjmp again
+ocr0_halted                 152 none: again: | sts 0x51, r16 | rjmp again
+tccr0_halted                164 none: again: | sts 0x53, r20 | rjmp again
+udr0_read                    73 none: ldi r17, 0x18 | out 0x0A, r17 | again: | in r20, 0x0C | rjmp again
+udr0_write                  131 none: ldi r17, 8 | out 0x0A, r17 | ldi r17, 255 | out 0x09, r17 | again: | out 0x0C, r20 | rjmp again
+spdr_write                   90 none: ldi r16, 0x53 | out 0x0D, r16 | again: | out 0x0F, r16 | rjmp again
+portb_write                  78 none: again: | out 0x18, r20 | rjmp again
+delay_subi                   47 none: again: | ldi r24, 32 | loop: | subi r24, 1 | brne loop | rjmp again
+sleep_off                   223 none: again: | sleep | rjmp again
+critical_section             50 none: rjmp begin | nop | nop | nop | nop | nop | nop | nop | nop | nop | nop | nop | nop | nop | nop | nop | nop | nop | nop | nop | nop | nop | nop | nop | nop | nop | nop | nop | nop | nop | reti | nop | reti | nop | nop | nop | nop | nop | nop | nop | nop | nop | nop | nop | nop | nop | begin: | ldi r16, 0x10 | out 0x3E, r16 | ldi r16, 0xFF | out 0x3D, r16 | ldi r16, 9 | out 0x33, r16 | ldi r16, 63 | out 0x31, r16 | ldi r16, 2 | out 0x37, r16 | again: | cli | inc r20 | inc r20 | inc r20 | inc r20 | inc r20 | inc r20 | inc r20 | inc r20 | inc r20 | inc r20 | inc r20 | inc r20 | inc r20 | inc r20 | inc r20 | inc r20 | inc r20 | inc r20 | inc r20 | inc r20 | inc r20 | inc r20 | inc r20 | inc r20 | inc r20 | inc r20 | inc r20 | inc r20 | inc r20 | inc r20 | inc r20 | inc r20 | inc r20 | inc r20 | inc r20 | inc r20 | inc r20 | inc r20 | inc r20 | inc r20 | sei | rjmp again
+interrupt_each_6            742 none: rjmp begin | nop | nop | nop | nop | nop | nop | nop | nop | nop | nop | nop | nop | nop | nop | nop | nop | nop | nop | nop | nop | nop | nop | nop | nop | nop | nop | nop | nop | nop | reti | nop | reti | nop | nop | nop | nop | nop | nop | nop | nop | nop | nop | nop | nop | nop | begin: | ldi r16, 0x10 | out 0x3E, r16 | ldi r16, 0xFF | out 0x3D, r16 | ldi r16, 9 | out 0x33, r16 | ldi r16, 5 | out 0x31, r16 | ldi r16, 2 | out 0x37, r16 | sei | again: | inc r20 | inc r20 | inc r20 | inc r20 | inc r20 | rjmp again
+interrupt_each_16           161 none: rjmp begin | nop | nop | nop | nop | nop | nop | nop | nop | nop | nop | nop | nop | nop | nop | nop | nop | nop | nop | nop | nop | nop | nop | nop | nop | nop | nop | nop | nop | nop | reti | nop | reti | nop | nop | nop | nop | nop | nop | nop | nop | nop | nop | nop | nop | nop | begin: | ldi r16, 0x10 | out 0x3E, r16 | ldi r16, 0xFF | out 0x3D, r16 | ldi r16, 9 | out 0x33, r16 | ldi r16, 15 | out 0x31, r16 | ldi r16, 2 | out 0x37, r16 | sei | again: | inc r20 | inc r20 | inc r20 | inc r20 | inc r20 | rjmp again
+sleep_woken_each_32         479 none: rjmp begin | nop | nop | nop | nop | nop | nop | nop | nop | nop | nop | nop | nop | nop | nop | nop | nop | nop | nop | nop | nop | nop | nop | nop | nop | nop | nop | nop | nop | nop | reti | nop | reti | nop | nop | nop | nop | nop | nop | nop | nop | nop | nop | nop | nop | nop | begin: | ldi r16, 0x10 | out 0x3E, r16 | ldi r16, 0xFF | out 0x3D, r16 | ldi r16, 9 | out 0x33, r16 | ldi r16, 31 | out 0x31, r16 | ldi r16, 2 | out 0x37, r16 | ldi r16, 0x20 | out 0x35, r16 | sei | again: | sleep | rjmp again
+line_up_load_store           36 none: ldi r16, 1 | out 0x33, r16 | out 0x37, r16 | again: | lds r20, 0x0200 | inc r20 | sts 0x200, r20 | rjmp again
+timsk_toggled               171 none: ldi r16, 0x07 | out 0x33, r16 | ldi r17, 2 | ldi r18, 0 | again: | inc r20 | inc r20 | out 0x37, r17 | inc r20 | inc r20 | out 0x37, r18 | rjmp again
 TABLE
 }
 
@@ -71,6 +93,12 @@ count() {
     } >"$work/probe.toml"
     host=$(cd "$work" && valgrind --tool=callgrind --callgrind-out-file=/dev/null "$program" run --plain probe.toml 2>&1 >rows | awk '/Collected/ { print $4 }')
     executed=$(awk 'END { print $(NF - 1) }' "$work/rows")
+}
+
+# HOST of `monitor` over all of so many cycles of the last probe's image.
+monitor() {
+    printf 'cycles = %d\nnode = [{ image = "probe.hex" }]\n' "$1" >"$work/probe.toml"
+    (cd "$work" && valgrind --tool=callgrind --callgrind-out-file=/dev/null "$program" monitor probe.toml 0 "$1" 2>&1 >/dev/null | awk '/Collected/ { print $4 }')
 }
 
 status=0
@@ -89,4 +117,12 @@ while read -r name most window source; do
         printf "%s: %.2f, at most %s%s\n", n, h / e, m, (h > m * e) ? ": MORE" : ""
         exit (h > m * e) }' || status=1
 done < <(probes)
+
+# Rows are tallied many at once: with few at once, `monitor` takes far more for a cycle.
+printf 'again:\nldi r20, 1\ndec r20\nrjmp again\n' >"$work/probe.s"
+"$program" asm "$work/probe.s" >"$work/probe.hex"
+h=$(monitor 20000)
+awk -v m=281 -v h="$(($(monitor 100000) - h))" 'BEGIN {
+    printf "monitor, a cycle: %.2f, at most %s%s\n", h / 80000, m, (h > m * 80000) ? ": MORE" : ""
+    exit (h > m * 80000) }' || status=1
 exit $status

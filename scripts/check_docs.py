@@ -44,7 +44,7 @@ MOST_BYTES = {
     "docs/PROVING.md": 27000,
     "docs/DECISIONS.md": 22000,
     "docs/ARCHITECTURE.md": 13000,
-    "docs/CASES.md": 7000,
+    "docs/CASES.md": 9500,
 }
 
 # The documents whose commands are run.

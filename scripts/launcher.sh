@@ -27,6 +27,7 @@ Usage: $called [-C DIR] COMMAND
   head FILE N         run it for N epochs of 262144 cycles, and write their part of the trace
   save FILE N         run it for N epochs, and write the state of the network
   head, save FILE N STATE   the same from a state on, for N epochs more
+  look FILE CYCLE [STATE]  run it up to CYCLE, from a state on where there is one, and write the state of the network then
   resume FILE STATE   run it from a state on, and write the rest of the trace
   sweep FILE STATE MOVES  the same again and again, once for each line of MOVES, with the input that it says
   node FILE CYCLES    run the image FILE (Intel HEX) on one node for CYCLES cycles (1 to 10000000, no _), and write its trace

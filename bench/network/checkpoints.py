@@ -58,6 +58,8 @@ def are_words(words):
 
 
 class Cases(CaseFile):
+    takes = staticmethod(are_words)
+
     def __init__(self, folder, head=HEAD):
         super().__init__(folder, head.splitlines())
         self.known = {}
@@ -66,12 +68,18 @@ class Cases(CaseFile):
         self.file_beside("file", name, content.encode() if isinstance(content, str) else content)
 
     def outcome(self, words, failing):
-        if not are_words(words):
+        if not self.takes(words):
             return 2, b"", "avrora: bad command line"
         try:
             return 0, outcome(Files(self.held, failing), words[2:] if words[0] == "run" else words), ""
         except Refused as refused:
             return refused.status, b"", refused.line
+
+    def held_of(self, text):
+        """What a call wrote that was made before."""
+        status, written, _ = self.known[text, None]
+        assert status == 0
+        return written
 
     def call(self, text, reads=None, out=None):
         """A call, where the read or the write with this number fails. An output that fails takes 4,096 bytes at a call."""

@@ -14,12 +14,15 @@ from pathlib import Path
 from case_lines import CaseFile, Files, fnv, folder_of_words
 from draw import foreign, hex_text, ring
 from facts import two
-from network import Refused, open_network
+from network import Refused, open_network, outcome as call_of
 from states import EPOCH
 from watch import frame_lines, profile_lines, read_window, sender
 
 HERE = Path(__file__).resolve().parent
 LOOP = "ldi r16, 1\nhere:\nrjmp here\n"
+
+# The most bytes that a state gives an output at once.
+PAGE = 16_384
 
 HEAD = """\
 # A case file of calls that fail at every place. file NAME: a file, whose lines follow behind bars. copy NAME: the file that
@@ -151,6 +154,37 @@ def writes_in_turn(it, early):
     it.out("make 0", 40, "make.line")
 
 
+def checkpoints_in_turn(it):
+    it.about("States and moves. A state has less than a page, and goes out at once; what rows an epoch has, too.")
+    it.file("longer.toml", f'cycles = {2 * EPOCH + 6}\nwindow = [{2 * EPOCH - 6}, {2 * EPOCH + 6}]\nnode = [{{image = "loop.hex"}}]\n')
+    it.file("two.moves", "0 0 1 41\n0 0 1 42\n")
+
+    def due(name, *words):
+        content = call_of(Files(it.held), list(words))
+        assert len(content) <= PAGE
+        it.copy(name, content)
+        return content
+
+    due("one.state", "save", "epochs.toml", "1")
+    due("other.state", "save", "longer.toml", "1", "one.state")
+    due("one.head", "head", "epochs.toml", "1")
+    due("other.head", "head", "longer.toml", "1", "one.state")
+    rest = due("one.rest", "resume", "epochs.toml", "one.state")
+    due("two.rest", "sweep", "epochs.toml", "one.state", "two.moves")
+    calls = (
+        ("save epochs.toml 1", "one.state", None),
+        ("head epochs.toml 1", "one.head", None),
+        ("resume epochs.toml one.state", "one.rest", None),
+        ("save longer.toml 1 one.state", "other.state", None),
+        ("head longer.toml 1 one.state", "other.head", None),
+        ("sweep epochs.toml one.state two.moves", "two.rest", [len(rest), len(rest)]),
+    )
+    for words, name, _ in calls:
+        it.reads(words, [words.split()[1], "loop.hex", *(it for it in words.split()[2:] if not it.isdigit())], shown(0, it.held[name], ""))
+    for words, name, pieces in calls:
+        it.out(words, 1_000, name, pieces)
+
+
 def complaints_in_turn(it):
     it.about("Each write to the error stream fails in turn, a byte at a call. The line is what is due there, and the status 1.")
     for words, due, status in (
@@ -264,6 +298,7 @@ def case_file(folder):
     reads_in_turn(it)
     early = sum(len(row) for row in epochs.splitlines(keepends=True) if int(row.split()[0]) < EPOCH)
     writes_in_turn(it, [early, len(epochs) - early])
+    checkpoints_in_turn(it)
     complaints_in_turn(it)
     cuts(it)
     drawn(it, 200)

@@ -8,6 +8,7 @@ cycle after the other in order of their numbers, and a sample hears what the lis
     bench/network/network.py resume FILE STATE    the rows from a state on
     bench/network/network.py head FILE N STATE    the rows of N epochs from a state on
     bench/network/network.py save FILE N STATE    the state behind them
+    bench/network/network.py look FILE CYCLE [STATE]    the state as a cycle begins, from reset or from a state on
     bench/network/network.py sweep FILE STATE MOVES    the rows from a state on, once for each line of MOVES
 
 It shares nothing with the crates: it is written from docs/ and the AVR Instruction Set Manual, and reads TOML by Python's
@@ -26,6 +27,8 @@ from moves import read_moves  # noqa: E402
 from states import EPOCH, Fault, Rules, Saved, read_state, state_text  # noqa: E402
 
 MOST_SCENARIO, MOST_IMAGE, FLASH = 524_288, 1_048_576, 131_072
+# The most instructions that a state can say of a node.
+MOST_EXECUTED = 2**40
 
 
 class Refused(Exception):
@@ -254,6 +257,20 @@ def swept(files, name, state, moves):
     return b"".join(written)
 
 
+def end_of(network, kind, number):
+    """The cycle up to which a call runs that has a number: so many epochs further, below the limit; or the cycle that `look` has."""
+    if kind != "look":
+        cycle = network.first + EPOCH * number
+        if cycle >= network.limit:
+            raise Fault("PastEnd")
+        return cycle
+    if number < network.first:
+        raise Fault("PastCycle")
+    if number > network.limit:
+        raise Fault("PastEnd")
+    return number
+
+
 def outcome(files, words):
     """What a call with these words writes. Raises Refused."""
     if len(words) == 1:
@@ -271,18 +288,17 @@ def outcome(files, words):
         if kind == "resume":
             network.run()
             return network.trace()
-        cycle = network.first + EPOCH * int(rest[0])
-        if cycle >= network.limit:
-            raise Fault("PastEnd")
+        network.run_to(end_of(network, kind, int(rest[0])))
+        if kind != "head" and any(node.count > MOST_EXECUTED for node in network.nodes):
+            raise Fault("TooMany")
     except Fault as fault:
         raise refused(name if state is None else state, "state", fault) from None
-    network.run_to(cycle)
     return network.trace() if kind == "head" else state_text(network.saved())
 
 
 def main():
     words = sys.argv[1:]
-    counts = {"head": (3, 4), "save": (3, 4), "resume": (3,), "sweep": (4,)}
+    counts = {"head": (3, 4), "save": (3, 4), "look": (3, 4), "resume": (3,), "sweep": (4,)}
     if len(words) != 1 and (not words or len(words) not in counts.get(words[0], ())):
         sys.exit(__doc__)
     try:

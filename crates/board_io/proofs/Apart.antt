@@ -26,6 +26,11 @@ use Rattle.serial_ports.specs.declared.spi.Spi.{Spi as SpiPort}
 use Rattle.serial_ports.specs.declared.spi_registers.SpiReg.TheVariants as spi
 use Rattle.serial_ports.specs.Spi.{asks_interrupt}
 use Rattle.serial_ports.specs.SpiRegisters.{accessed}
+use Rattle.serial_ports.specs.Usart.{is_filled, lines_of as usart_lines}
+use Rattle.serial_ports.specs.UsartRegisters.{get_of, without_oldest}
+use Rattle.serial_ports.specs.declared.usart_receive_buffer.ReceiveBuffer.{ReceiveBuffer}
+use Rattle.serial_ports.specs.declared.usart_receive_buffer.ReceiveBuffer.TheVariants.{Empty, One, Two}
+use Rattle.device_base.specs.Names.{RXCIE0}
 use Rattle.avr_timers.specs.declared.registers16.Reg16.{Reg16}
 use Rattle.avr_timers.specs.declared.registers8.Reg8.{Reg8}
 use Rattle.avr_timers.specs.Registers16 as reg16s
@@ -119,6 +124,20 @@ asks_no_more : (flag noted on : Bool) → (flag && on) ≡ false → ((flag && n
 asks_no_more false noted on e = refl
 asks_no_more true false on e = e
 asks_no_more true true on e = refl
+
+-- and where no byte that was received does, none does after one is read
+reads_no_more : (r : ReceiveBuffer) (on : Bool) → (is_filled r && on) ≡ false → (is_filled (without_oldest r) && on) ≡ false
+reads_no_more Empty on e = e
+reads_no_more (One a) on e = refl
+reads_no_more (Two a b) on e = e
+
+lines_udr : (b : Board) → (usart_lines b.usart).rxc ≡ false → lines_of (let c : Board = record b { usart = (get_of b.usart usart.Udr).1 } in c) ≡ lines_of b
+unfolding lines_of
+lines_udr b e = rw (e, reads_no_more b.usart.receive_buffer (any_bit b.usart.control_b RXCIE0) e) refl
+
+pub got_udr : (b : Board) (at s n : ℕ) → (usart_lines b.usart).rxc ≡ false → GotApart b s n (get_by (Usart0 usart.Udr) b at) (get_by (Usart0 usart.Udr) (timers_leap s n b) at)
+unfolding timers_leap board_quiet
+got_udr b at s n e = (refl, record { quiet = λ t. refl; calm = λ t i. refl; steady = λ t i. refl; lines = lines_udr b e })
 
 lines_spi : (b : Board) (p : SpiPort) → asks_interrupt b.spi ≡ false → asks_interrupt p ≡ false → lines_of (let c : Board = record b { spi = p } in c) ≡ lines_of b
 unfolding lines_of

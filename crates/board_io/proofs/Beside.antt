@@ -1,4 +1,4 @@
--- An access to USART0 or to the serial peripheral interface is the same on a board whose timers lag, and leaves these.
+-- An access to USART0, to the serial peripheral interface or to a kept byte is the same on a board whose timers lag, and leaves these.
 use Rattle.std.proofs.Common.{◌≡◌, ℕ, ◌+◌, ◌-◌, ◌<◌, true, false, Result, Ok, Err, refl, sym, ap, ◌∙◌, subst}
 use Rattle.avr_base.specs.declared.stop.StopCause.{StopCause}
 use Rattle.board_io.specs.declared.ahead.Forecast.{Forecast}
@@ -9,7 +9,7 @@ use Rattle.board_io.proofs.Agree.{get_clocked, put_clocked}
 use Rattle.board_io.specs.declared.rules.Rule.{Rule}
 use Rattle.board_io.specs.declared.rules.Rule.TheVariants.{Reserved, Pin, Kept, Guarded, WatchdogControl, ResetFlags, CpuControl, TimerFlags, ExtendedTimerFlags, Timer0, Timer1, Timer2, Timer3, Usart0, Spi}
 use Rattle.board_io.specs.Cycle.{timers_leap}
-use Rattle.board_io.specs.Lagging.{IsAhead, caught_up, is_port}
+use Rattle.board_io.specs.Lagging.{IsAhead, caught_up, leaves_timers}
 use Rattle.board_io.specs.Passing.{changes_flag_at, sets_flag_at}
 use Rattle.board_io.specs.Registers.{IsGot, IsPut, get_by, get_in, put_by, put_in, with_spi, with_usart}
 use Rattle.serial_ports.specs.declared.spi.Spi.{Spi as SpiPort}
@@ -36,11 +36,11 @@ PutBeside b s n (Err cause) late = late ≡ Err cause
 false_true : false ≡ true → ⊥
 false_true e = cc
 
-got_beside : (rule : Rule) (b : Board) (at s n : ℕ) → is_port rule ≡ true → GotBeside b s n (get_by rule b at) (get_by rule (timers_leap s n b) at)
+got_beside : (rule : Rule) (b : Board) (at s n : ℕ) → leaves_timers rule ≡ true → GotBeside b s n (get_by rule b at) (get_by rule (timers_leap s n b) at)
 unfolding timers_leap
 got_beside Reserved b at s n e = absurd (false_true e)
 got_beside (Pin port) b at s n e = absurd (false_true e)
-got_beside (Kept mask) b at s n e = absurd (false_true e)
+got_beside (Kept mask) b at s n e = (refl, record { calm = λ t i. refl; steady = λ t i. refl })
 got_beside (Guarded bits cause mask) b at s n e = absurd (false_true e)
 got_beside WatchdogControl b at s n e = absurd (false_true e)
 got_beside ResetFlags b at s n e = absurd (false_true e)
@@ -64,11 +64,11 @@ unfolding timers_leap
 spi_beside b s n (Ok u) = (refl, record { calm = λ t i. refl; steady = λ t i. refl })
 spi_beside b s n (Err cause) = refl
 
-done_beside : (t : ℕ) (rule : Rule) (b : Board) (at x s n : ℕ) → is_port rule ≡ true → PutBeside b s n (put_by t rule b at x) (put_by t rule (timers_leap s n b) at x)
+done_beside : (t : ℕ) (rule : Rule) (b : Board) (at x s n : ℕ) → leaves_timers rule ≡ true → PutBeside b s n (put_by t rule b at x) (put_by t rule (timers_leap s n b) at x)
 unfolding timers_leap
 done_beside t Reserved b at x s n e = absurd (false_true e)
 done_beside t (Pin port) b at x s n e = absurd (false_true e)
-done_beside t (Kept mask) b at x s n e = absurd (false_true e)
+done_beside t (Kept mask) b at x s n e = (refl, record { calm = λ t i. refl; steady = λ t i. refl })
 done_beside t (Guarded bits cause mask) b at x s n e = absurd (false_true e)
 done_beside t WatchdogControl b at x s n e = absurd (false_true e)
 done_beside t ResetFlags b at x s n e = absurd (false_true e)
@@ -82,7 +82,7 @@ done_beside t (Timer3 reg) b at x s n e = absurd (false_true e)
 done_beside t (Usart0 reg) b at x s n e = usart_beside b s n (usart.put_of t b.usart reg x)
 done_beside t (Spi reg) b at x s n e = spi_beside b s n (spi.put_of t b.spi reg x)
 
-module _ (rule : Rule) (b : Board) (at s t : ℕ) (e : is_port rule ≡ true) where
+module _ (rule : Rule) (b : Board) (at s t : ℕ) (e : leaves_timers rule ≡ true) where
   got : (g : Result (ℕ × Board) StopCause) → get_by rule b at ≡ g → GotBeside b s (t - s) g (get_by rule (caught_up s t b) at)
   got g h = subst (λ r. GotBeside b s (t - s) r (get_by rule (caught_up s t b) at)) h (got_beside rule b at s (t - s) e)
 

@@ -7,7 +7,7 @@ use Rattle.board_io.specs.declared.board.Board.{Board}
 use Rattle.board_io.specs.declared.clocked.ClockedBoard.{ClockedBoard}
 use Rattle.board_io.specs.Board.{clocked, sleep_mode}
 use Rattle.board_io.specs.Cycle.{board_quiet, timers_leap}
-use Rattle.board_io.specs.Lagging.{IsAhead, IsClear, IsIdle, caught_up}
+use Rattle.board_io.specs.Lagging.{IsAhead, IsUneventful, IsIdle, caught_up}
 use Rattle.board_io.specs.Lines.{lines_of}
 use Rattle.board_io.proofs.Leaps.{leap_quiet, leap_zero}
 use Rattle.board_io.specs.Passing.{changes_flag_at}
@@ -42,18 +42,16 @@ bits_same : (l m : Lines) → l.bits ≡ m.bits → l ≡ m
 bits_same l m e = λ k. let n : Lines = record { bits = e k } in n
 
 -- ---- up to a bound
--- n cycles on the same is clear
-clear_leap : (bound n : ℕ) (v : ClockedBoard) → IsClear bound v → v.clock + n ≤ bound → IsClear bound (clocked (v.clock + n) (timers_leap v.clock n v.board))
-clear_leap bound n v h le = record {
-  down = λ l. ap (λ (m : Lines). m.bits) (lines_calm v.clock n v.board (λ i k. h.calm i (omega (arith, le, k)))) ∙ h.down (omega (arith, l));
+-- n cycles on the same holds
+calm_leap : (bound n : ℕ) (v : ClockedBoard) → IsUneventful bound v → v.clock + n ≤ bound → IsUneventful bound (clocked (v.clock + n) (timers_leap v.clock n v.board))
+calm_leap bound n v h le = record {
   quiet = λ u from below. leap_quiet u v.clock n v.board ∙ h.quiet u (omega (arith, from)) below;
   calm = λ i below. changes_later v.clock n i v.board ∙ h.calm (n + i) (omega (arith, below));
 }
 
--- and what is clear up to a bound is clear up to an earlier one
-pub sooner : (bound less : ℕ) (c : ClockedBoard) → less ≤ bound → IsClear bound c → IsClear less c
+-- and up to an earlier one
+pub sooner : (bound less : ℕ) (c : ClockedBoard) → less ≤ bound → IsUneventful bound c → IsUneventful less c
 sooner bound less c le h = record {
-  down = λ l. h.down (omega (arith, l, le));
   quiet = λ t from below. h.quiet t from (omega (arith, below, le));
   calm = λ i below. h.calm i (omega (arith, below, le));
 }
@@ -112,38 +110,40 @@ module _ (a : Forecast) (t : ℕ) (b : Board) (h : IsAhead a t b) where
         calm = λ i l. known i (t + n) l (omega (arith, le));
       }
 
-  free_by : (bound n : ℕ) → bound ≤ LAST_CYCLE → IsClear bound (clocked t value) → t + n ≤ bound → IsFree a.settled t n b
+  free_by : (bound n : ℕ) → bound ≤ LAST_CYCLE → IsUneventful bound (clocked t value) → t + n ≤ bound → IsFree a.settled t n b
   free_by bound n early clear le = record {
     early = omega (arith, early, le);
     quiet = λ i l. sym (leap_quiet (t + i) a.settled (t - a.settled) b) ∙ clear.quiet (t + i) (omega arith) (omega (arith, l, le));
     calm = λ i l. elim (cases_lt (a.settled + i) t) [
       | inl before ↦ h.past i before
-      | inr from ↦ calm_to i from (omega (arith, l, le))
+      | inr from ↦ later_calm i from (omega (arith, l, le))
     ];
   }
     where
-      calm_to : (i : ℕ) → t ≤ a.settled + i → a.settled + i < bound → changes_flag_at a.settled b i ≡ false
-      calm_to i from below =
+      later_calm : (i : ℕ) → t ≤ a.settled + i → a.settled + i < bound → changes_flag_at a.settled b i ≡ false
+      later_calm i from below =
           let l = h.settled in
           let j : ℕ = a.settled + i - t in
           let here : t - a.settled + j ≡ i = omega (arith, l, from) in
           ap (changes_flag_at a.settled b) (sym here) ∙ (sym (changes_further j) ∙ clear.calm j (omega (arith, from, below)))
 
-  -- nor up to a bound that its value is clear to
-  pub free_to : (bound n : ℕ) (v : ClockedBoard) → clocked t value ≡ v → bound ≤ LAST_CYCLE → IsClear bound v → t + n ≤ bound → IsFree a.settled t n b
-  free_to bound n v e early clear le = free_by bound n early (subst (IsClear bound) (sym e) clear) le
+  -- nor up to a bound below which nothing happens to its value
+  pub free_to : (bound n : ℕ) (v : ClockedBoard) → clocked t value ≡ v → bound ≤ LAST_CYCLE → IsUneventful bound v → t + n ≤ bound → IsFree a.settled t n b
+  free_to bound n v e early clear le = free_by bound n early (subst (IsUneventful bound) (sym e) clear) le
 
-  -- its value is clear up to what `clear` says
-  pub clear_is : (v : ClockedBoard) → clocked t value ≡ v → IsClear a.clear v
-  clear_is v e =
-      let within = h.clear in
+  -- nothing happens to its value below `next`
+  pub calm_to : (bound : ℕ) (v : ClockedBoard) → bound ≤ a.next → clocked t value ≡ v → IsUneventful bound v
+  calm_to bound v within e =
       let l = h.settled in
-      let k : IsClear a.clear (clocked t value) = record {
-        down = λ below. lines_now ∙ h.down (omega (arith, below));
+      let k : IsUneventful bound (clocked t value) = record {
         quiet = λ u from below. leap_quiet u a.settled (t - a.settled) b ∙ h.quiet u from (omega (arith, within, below));
         calm = λ i below. changes_further i ∙ h.calm (t - a.settled + i) (omega (arith, l, within, below));
       } in
-      subst (IsClear a.clear) e k
+      subst (IsUneventful bound) e k
+
+  -- and none of its lines is up below `clear`
+  pub down_to : (v : ClockedBoard) → clocked t value ≡ v → v.clock < a.clear → (lines_of v.board).bits ≡ 0
+  down_to v e below = ap (λ (w : ClockedBoard). (lines_of w.board).bits) (sym e) ∙ (lines_now ∙ h.down (omega (arith, below)))
 
   lines_by : (n : ℕ) → IsFree a.settled t n b → (i : ℕ) → i ≤ n → lines_of (timers_leap t i value) ≡ lines_of value
   lines_by n p i le =
@@ -190,11 +190,11 @@ module _ (a : Forecast) (t : ℕ) (b : Board) (h : IsAhead a t b) where
   pub lines_stay : (n : ℕ) (v : ClockedBoard) → clocked t value ≡ v → IsFree a.settled t n b → lines_of (caught_up a.settled (t + n) b) ≡ lines_of v.board
   lines_stay n v e p = ap lines_of (passed_by n) ∙ (lines_by n p n (omega arith) ∙ ap (λ (w : ClockedBoard). lines_of w.board) e)
 
-  -- and where that was clear, it is clear
-  pub clear_stays : (bound n : ℕ) (v : ClockedBoard) → clocked t value ≡ v → IsClear bound v → t + n ≤ bound → IsClear bound (clocked (t + n) (caught_up a.settled (t + n) b))
-  clear_stays bound n v e clear le =
-      subst (λ (c : Board). IsClear bound (clocked (t + n) c)) (sym (passed_by n))
-      (clear_leap bound n (clocked t value) (subst (IsClear bound) (sym e) clear) le)
+  -- and up to a bound nothing happens still
+  pub calm_stays : (bound n : ℕ) (v : ClockedBoard) → clocked t value ≡ v → IsUneventful bound v → t + n ≤ bound → IsUneventful bound (clocked (t + n) (caught_up a.settled (t + n) b))
+  calm_stays bound n v e clear le =
+      subst (λ (c : Board). IsUneventful bound (clocked (t + n) c)) (sym (passed_by n))
+      (calm_leap bound n (clocked t value) (subst (IsUneventful bound) (sym e) clear) le)
 
 -- its first cycle is quiet, where one is passed
 pub quiet_now : (t : ℕ) (b : Board) → IsIdle t 1 b → board_quiet t b ≡ true

@@ -18,7 +18,8 @@ pub mod Enabled
 pub mod Lags
 -- An access that looks at no timer is the same on a board whose timers lag, and leaves what is known of it.
 pub mod Apart
--- An access to USART0 or to the serial peripheral interface is the same on a board whose timers lag, and leaves these.
+-- An access to USART0, to the serial peripheral interface or to a kept byte is the same on a board whose timers lag,
+-- and leaves these.
 pub mod Beside
 -- A write of SPDR where the serial peripheral interface asks for no interrupt: of what is known of the board, only its
 -- next end changes.

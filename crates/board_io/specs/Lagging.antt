@@ -39,9 +39,8 @@ pub record IsAhead (a : Forecast) (clock : ℕ) (b : Board) : Type 0 where
   pub clear : a.clear ≤ a.next
   pub down : 0 < a.clear → a.lines ≡ 0
 
--- up to the beginning of cycle `bound` no line is up, nothing of a board ends and no flag of a timer changes
-pub record IsClear (bound : ℕ) (c : ClockedBoard) : Type 0 where
-  pub down : c.clock < bound → (lines_of c.board).bits ≡ 0
+-- up to the beginning of cycle `bound` nothing of a board ends and no flag of a timer changes
+pub record IsUneventful (bound : ℕ) (c : ClockedBoard) : Type 0 where
   pub quiet : (t : ℕ) → c.clock ≤ t → t < bound → board_quiet t c.board ≡ true
   pub calm : (i : ℕ) → c.clock + i < bound → changes_flag_at c.clock c.board i ≡ false
 
@@ -81,23 +80,23 @@ is_plain_read (Timer3 reg) = false
 is_plain_read (Usart0 reg) = not (is_udr reg)
 is_plain_read (Spi reg) = not (is_spdr reg)
 
--- whether a rule is one of USART0 or of the serial peripheral interface
-abbrev pub is_port : Rule → Bool
-is_port Reserved = false
-is_port (Pin port) = false
-is_port (Kept mask) = false
-is_port (Guarded bits cause mask) = false
-is_port WatchdogControl = false
-is_port ResetFlags = false
-is_port CpuControl = false
-is_port TimerFlags = false
-is_port ExtendedTimerFlags = false
-is_port (Timer0 reg) = false
-is_port (Timer1 reg) = false
-is_port (Timer2 reg) = false
-is_port (Timer3 reg) = false
-is_port (Usart0 reg) = true
-is_port (Spi reg) = true
+-- whether a rule is one of USART0, of the serial peripheral interface, or of a byte that is kept, as TIMSK is: no timer's
+abbrev pub leaves_timers : Rule → Bool
+leaves_timers Reserved = false
+leaves_timers (Pin port) = false
+leaves_timers (Kept mask) = true
+leaves_timers (Guarded bits cause mask) = false
+leaves_timers WatchdogControl = false
+leaves_timers ResetFlags = false
+leaves_timers CpuControl = false
+leaves_timers TimerFlags = false
+leaves_timers ExtendedTimerFlags = false
+leaves_timers (Timer0 reg) = false
+leaves_timers (Timer1 reg) = false
+leaves_timers (Timer2 reg) = false
+leaves_timers (Timer3 reg) = false
+leaves_timers (Usart0 reg) = true
+leaves_timers (Spi reg) = true
 
 -- neither TIMSK nor ETIMSK, which enable the timers' lines
 abbrev pub is_no_mask : ℕ → Bool

@@ -2,7 +2,7 @@
 ghost use Rattle.std.specs.Prelude.{◌≡◌, ◌≤◌, ◌<◌, ◌+◌, ◌-◌, ◌*◌, true, false, is_some};
 ghost use Rattle.air_base.specs.Bounds.{LAST_CYCLE};
 ghost use Rattle.air_base.specs.declared.bounds.TheConstants.{LONGEST_BYTE};
-ghost use Rattle.board_io.specs.Lagging.{IsClear, IsIdle};
+ghost use Rattle.board_io.specs.Lagging.{IsUneventful, IsIdle};
 
 use crate::ahead::{Forecast, clear_until};
 use crate::{Board, Clock, ClockedBoard, CycleOutput, Sleep};
@@ -127,12 +127,22 @@ impl LaggingBoard {
         self.held.clock.get()
     }
 
-    /// A cycle, of 2^40 at most, up to whose beginning no interrupt line is up, no frame and no transfer ends and no
-    /// timer sets a flag, as far as what runs now tells; 0 where a line is up.
+    /// A cycle, of 2^40 at most, up to whose beginning no frame and no transfer ends and no timer changes a flag, as far as
+    /// what runs now tells: so up to there the interrupt lines stay.
+    #[inline(always)]
+    pub fn calm(&self) -> u64
+        ensures early { result ≤ LAST_CYCLE }
+        ensures calm { IsUneventful result self.now }
+    {
+        self.ahead.next
+    }
+
+    /// That cycle where no interrupt line is up; 0 where one is.
     #[inline(always)]
     pub fn clear(&self) -> u64
         ensures early { result ≤ LAST_CYCLE }
-        ensures clear { IsClear result self.now }
+        ensures calm { IsUneventful result self.now }
+        ensures down { self.now.clock < result → (lines_of self.now.board).bits ≡ 0 }
     {
         self.ahead.clear
     }
@@ -143,12 +153,12 @@ impl LaggingBoard {
     pub fn leap_within(&mut self, bound: u64, n: u8) -> bool
         requires some { 0 < n }
         requires early { bound ≤ LAST_CYCLE }
-        requires clear { IsClear bound self.old }
+        requires calm { IsUneventful bound self.old }
         ensures within { result ≡ true → self.old.clock + n ≤ bound }
         ensures idle { result ≡ true → IsIdle self.old.clock n self.old.board }
         ensures state { result ≡ true → self.new.board ≡ timers_leap self.old.clock n self.old.board }
-        ensures lines { result ≡ true → (lines_of self.new.board).bits ≡ 0 }
-        ensures clear { result ≡ true → IsClear bound self.new }
+        ensures lines { result ≡ true → lines_of self.new.board ≡ lines_of self.old.board }
+        ensures calm { result ≡ true → IsUneventful bound self.new }
         ensures clock { result ≡ true → self.new.clock ≡ self.old.clock + n }
         ensures same { result ≡ false → self.new ≡ self.old }
     {

@@ -1,7 +1,8 @@
 // The I/O registers of a board that lags.
 ghost use Rattle.std.specs.Prelude.{◌≡◌, ◌≤◌, true, false};
-ghost use Rattle.board_io.specs.Lagging.{ReadsStill, is_spdr, is_still_port, is_still_read, is_udr, is_plain_read, is_plain_write, is_port};
+ghost use Rattle.board_io.specs.Lagging.{ReadsStill, is_spdr, is_still_port, is_still_read, is_udr, is_plain_read, is_plain_write, leaves_timers};
 ghost use Rattle.board_io.specs.Table.{rule_of};
+ghost use Rattle.serial_ports.specs.Usart.{lines_of as usart_lines};
 
 use crate::ahead::clear_until;
 use crate::names::{ETIMSK, TIMSK};
@@ -94,6 +95,14 @@ fn is_still_port(reg: SpiReg, port: &Spi) -> bool
 }
 
 impl Board {
+    // Whether a byte that USART0 received asks for an interrupt.
+    #[inline]
+    fn asks_for_a_read(&self) -> bool
+        ensures { result ≡ (usart_lines self.now.usart).rxc }
+    {
+        self.usart.lines().rxc
+    }
+
     // Whether a read by a rule changes nothing, and gives the same as long as the timers alone move.
     fn reads_still(&self, rule: Rule) -> bool
         ensures { result ≡ is_still_read rule self.now }
@@ -162,6 +171,7 @@ impl LaggingBoard {
             Rule::Timer2(reg) if steady => Ok(self.held.board.t2.get_calm(settled, n, reg)),
             Rule::Timer3(reg) if steady => Ok(self.held.board.t3.get_calm(settled, n, reg)),
             Rule::Spi(SpiReg::Spdr) => self.get_spdr(at),
+            Rule::Usart0(UsartReg::Udr) => self.get_udr(at),
             _ if is_plain_read(rule) => self.get_plain(rule, at as u8),
             _ => self.get_beside(at),
         }
@@ -178,6 +188,21 @@ impl LaggingBoard {
             return self.get_beside(at);
         }
         self.held.board.get_by(Rule::Spi(SpiReg::Spdr), at as u8)
+    }
+
+    // A read of UDR0: where no byte that was received asks for an interrupt, none does after the read.
+    #[inline(always)]
+    fn get_udr(&mut self, at: u16) -> Result<u8, StopCause>
+        requires listed { at ≤ 0x9F }
+        requires rule { rule_of at ≡ Rule.Usart0 UsartReg.Udr }
+        ensures { IsGot (get_in (rule_of at) self.old at) self.old result self.new }
+    {
+        if self.held.board.asks_for_a_read() {
+            return self.get_beside(at);
+        }
+        self.held
+            .board
+            .get_by(Rule::Usart0(UsartReg::Udr), at as u8)
     }
 
     // A read of a port, or of a timer that may have passed its top, in a call of its own: inlined, the code would slow the
@@ -219,7 +244,7 @@ impl LaggingBoard {
     // A read of USART0 or of the serial peripheral interface, which may move its lines and its end.
     #[inline(always)]
     fn get_port(&mut self, rule: Rule, at: u8) -> Result<u8, StopCause>
-        requires { is_port rule ≡ true }
+        requires { leaves_timers rule ≡ true }
         ensures { IsGot (get_in rule self.old at) self.old result self.new }
     {
         let got = self.held.board.get_by(rule, at);
@@ -228,9 +253,9 @@ impl LaggingBoard {
         got
     }
 
-    // A write of USART0 or of the serial peripheral interface.
+    // A write of USART0, of the serial peripheral interface, or of TIMSK or ETIMSK, which moves no timer.
     fn put_port(&mut self, rule: Rule, at: u8, x: u8) -> Result<(), StopCause>
-        requires { is_port rule ≡ true }
+        requires { leaves_timers rule ≡ true }
         ensures { IsPut (put_in rule self.old at x) self.old result self.new }
     {
         let put = self.held.board.put_by(self.held.clock, rule, at, x);
@@ -248,7 +273,7 @@ impl LaggingBoard {
         let low = at as u8;
         let rule = listed_rule(at);
         match rule {
-            Rule::Usart0(_) | Rule::Spi(_) => self.put_port(rule, low, x),
+            Rule::Usart0(_) | Rule::Spi(_) | Rule::Kept(_) => self.put_port(rule, low, x),
             _ => self.put_and_look_ahead(rule, low, x),
         }
     }

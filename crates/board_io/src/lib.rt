@@ -7,6 +7,7 @@ mod ahead;
 mod board;
 mod clock;
 mod clocked;
+mod copying;
 mod cycle;
 mod lagging;
 mod lagging_registers;

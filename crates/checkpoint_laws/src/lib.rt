@@ -9,7 +9,7 @@ ghost use Rattle.node_runner.specs.Scenario.{ScenarioOf, fleet_of};
 ghost use Rattle.checkpoint_laws.specs.Chain.{rows_behind, saved_behind};
 ghost use Rattle.checkpoint_text.specs.NodeOf.{node_of};
 ghost use Rattle.checkpoint_text.specs.Onward.{onward, saved_node};
-ghost use Rattle.checkpoint_text.specs.State.{rules_of, saved_at};
+ghost use Rattle.checkpoint_text.specs.State.{counts_fit, rules_of, saved_at};
 ghost use Rattle.state_text.specs.Bounds.{IsState, is_cut};
 
 /// What is saved of a run of accepted texts at a cycle is each node as it is then, and the rows of the whole run are
@@ -34,4 +34,10 @@ pub fn chain_law()
 /// so that it is accepted.
 pub fn accepted_law()
     ensures { (sc : ScenarioOf) (c : ℕ) → IsAccepted sc → is_cut sc.topo c ≡ true → IsState (rules_of sc) (saved_at sc c) }
+{}
+
+/// Of a run of accepted texts, and of the run onward from what is saved of it at a cycle, no node executes more
+/// instructions than a state can say.
+pub fn counted_law()
+    ensures { (sc : ScenarioOf) (c d : ℕ) → IsAccepted sc → c ≤ d → d ≤ sc.topo.limit → counts_fit (onward sc (saved_at sc c)) d ≡ true }
 {}

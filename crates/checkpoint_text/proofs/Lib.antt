@@ -6,3 +6,5 @@ pub mod Continues
 pub mod Bounded
 -- The state of a run: its nodes as they are at the cycle reached, and the sends that can still be heard in order.
 pub mod Saving
+-- What a test says of the nodes of a list, and of those of a run.
+pub mod Counted

@@ -1,8 +1,9 @@
 -- The state of a scenario that a text says, and the one that is written of a run at a cycle. Own to this simulator.
-use Rattle.std.specs.Prelude.{ℕ, ◌^◌, ◌<◌, ◌==◌, ◌&&◌, Bool, List, length, map, slice_index, is_none, Result}
-use Rattle.std.specs.List.{AllByRecursion, filter, range_with_len}
+use Rattle.std.specs.Prelude.{ℕ, ◌^◌, ◌<◌, ◌==◌, ◌&&◌, nat_le, Bool, List, length, map, slice_index, is_none, Result}
+use Rattle.std.specs.List.{AllByRecursion, filter, list_all, range_with_len}
 use Rattle.world_core.specs.Kept.{is_kept}
 use Rattle.world_core.specs.Order.{Fleet, node_at, world_at}
+use Rattle.air_base.specs.Bounds.{LAST_CYCLE}
 use Rattle.air_base.specs.declared.air.Send.{Send}
 use Rattle.air_base.specs.NodeRun.{Timed}
 use Rattle.board_io.specs.Kept.{first_refused, io_of}
@@ -79,6 +80,10 @@ saved_at sc c = saved_of (fleet_of sc) c
 -- and that of the run onward from a state
 abbrev pub saved_from : ScenarioOf → StateOf → ℕ → StateOf
 saved_from sc st c = saved_of (onward sc st) c
+
+-- no node of a run has executed more instructions before cycle c than a state can say
+abbrev pub counts_fit : Fleet NodeState Row → ℕ → Bool
+counts_fit f c = list_all (λ k. nat_le (node_at f k c).count LAST_CYCLE) (range_with_len 0 f.topo.nodes)
 
 abbrev pub saved_with : ScenarioOf → ℕ → List Send → StateOf
 saved_with sc c sends = state_with (fleet_of sc) c sends

@@ -1,6 +1,7 @@
 // A run that goes on from a saved state.
-ghost use Rattle.std.specs.Prelude.{◌≡◌, ℕ, ◌<◌, ◌≤◌, ◌+◌, ◌++◌, ◌==◌, [], min, true, false, length, slice_index_or, IfOk, OnOk};
-ghost use Rattle.std.specs.List.{All};
+ghost use Rattle.std.specs.Prelude.{◌≡◌, ℕ, ◌<◌, ◌≤◌, ◌+◌, ◌++◌, ◌==◌, nat_le, [], min, true, false, length, slice_index_or, IfOk, OnOk};
+ghost use Rattle.std.specs.List.{All, list_all};
+ghost use Rattle.air_base.specs.Bounds.{LAST_CYCLE};
 ghost use Rattle.node_runner.specs.Scenario.{IsScenario};
 ghost use Rattle.world_core.specs.Kept.{epoch};
 ghost use Rattle.air_base.specs.NodeRun.{Timed};
@@ -11,10 +12,10 @@ ghost use Rattle.fleet_flight.specs.Paused.{HaveBegun};
 ghost use Rattle.fleet_flight.specs.Rows.{rows_upto};
 ghost use Rattle.checkpoint_text.specs.Onward.{CanResume, IsFit, onward, origin_of};
 ghost use Rattle.checkpoint_text.specs.NodeOf.{node_of};
-ghost use Rattle.checkpoint_text.specs.State.{kept_of};
+ghost use Rattle.checkpoint_text.specs.State.{counts_fit, kept_of};
 
 use crate::onward::InState;
-use air_base::Send;
+use air_base::{LAST_CYCLE, Send};
 use avr_base::NoMemory;
 use fleet_flight::{kept_sends, pass_to, record_of, rows_to};
 use node_core::{Node, Row};
@@ -58,6 +59,13 @@ fn nodes_of(alloc: Global, scenario: &Scenario, state: &StateParts) -> Result<Ve
         }
     }
     Ok(nodes)
+}
+
+// Whether no node has executed more instructions than a state can say.
+fn few_each(nodes: &[Node]) -> bool
+    ensures { result ≡ list_all (λ v. nat_le v.state.count LAST_CYCLE) nodes.now }
+{
+    nodes.iter().all(|node| node.instructions() <= LAST_CYCLE)
 }
 
 /// A run of all nodes of a scenario that goes on from a saved state, epoch by epoch, on one thread. Any state will do,
@@ -147,6 +155,14 @@ impl Saved {
         &self.nodes
     }
 
+    /// Whether no node has executed more instructions before the cycle reached than a state can say. Not after `NoMemory`.
+    pub fn counts_fit(&self) -> bool
+        requires { self.now.failed ≡ false }
+        ensures { result ≡ counts_fit (onward self.now.scenario self.now.state) self.now.floor }
+    {
+        few_each(self.nodes())
+    }
+
     /// The sends that can still be heard in the cycle reached or later, in order of cycle, then node, those of the state
     /// included. The scenario is the one of the state. Not after `NoMemory`.
     pub fn sends(&self, scenario: &Scenario) -> Result<Vec<Send>, NoMemory>
@@ -188,12 +204,14 @@ impl Saved {
         Ok(rows)
     }
 
-    /// Passes over the next epoch, as `epoch` goes through it, but gives no rows. The scenario is the one of the state.
-    /// After `NoMemory` the run can only be dropped.
-    pub fn pass(&mut self, scenario: &Scenario) -> Result<(), NoMemory>
+    /// Passes over the next cycles below `end`, at most as many as an epoch has, but gives no rows. All nodes come to rest
+    /// there. The scenario is the one of the state. After `NoMemory` the run can only be dropped.
+    pub fn pass(&mut self, scenario: &Scenario, end: u64) -> Result<(), NoMemory>
         requires same { scenario.now ≡ self.old.scenario }
+        requires more { self.old.floor ≤ end }
+        requires within { end ≤ self.old.scenario.topo.limit }
         requires sound { self.old.failed ≡ false }
-        ensures after { OnOk result (self.new ≡ record self.old { floor = min (self.old.floor + epoch) self.old.scenario.topo.limit }) }
+        ensures after { OnOk result (self.new ≡ record self.old { floor = min (self.old.floor + epoch) end }) }
         ensures scenario { self.new.scenario ≡ self.old.scenario }
         ensures state { self.new.state ≡ self.old.state }
     {
@@ -202,16 +220,16 @@ impl Saved {
             scenario,
             state: &self.state,
         };
-        let end = (self.floor + EPOCH).min(self.limit);
+        let next = (self.floor + EPOCH).min(end);
         pass_to(
             self.alloc,
             &from,
             &mut self.nodes,
             &mut self.log,
             self.floor,
-            end,
+            next,
         )?;
-        self.floor = end;
+        self.floor = next;
         self.failed = false;
         Ok(())
     }

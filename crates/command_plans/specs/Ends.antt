@@ -96,6 +96,8 @@ state_cause_text (state_cause.Faulty (state_fault.NotAState line)) = codes "NotA
 state_cause_text (state_cause.Faulty (state_fault.OutOfBounds line)) = codes "OutOfBounds" ++ place_text (Some line)
 state_cause_text (state_cause.Faulty state_fault.PastEnd) = codes "PastEnd"
 state_cause_text (state_cause.Faulty state_fault.NoMemory) = codes "NoMemory"
+state_cause_text state_cause.PastCycle = codes "PastCycle"
+state_cause_text state_cause.TooMany = codes "TooMany"
 
 unfoldable pub moves_cause_text : MovesCause → List ℕ
 moves_cause_text moves_cause.TooLong = codes "TooLong"

@@ -88,6 +88,8 @@ fn state_cause(cause: StateCause) -> (&'static str, Option<usize>)
         StateCause::Faulty(StateFault::OutOfBounds { line }) => ("OutOfBounds", Some(line)),
         StateCause::Faulty(StateFault::PastEnd) => ("PastEnd", None),
         StateCause::Faulty(StateFault::NoMemory) => ("NoMemory", None),
+        StateCause::PastCycle => ("PastCycle", None),
+        StateCause::TooMany => ("TooMany", None),
     }
 }
 

@@ -38,8 +38,12 @@ pub enum StateCause {
     /// Its text has more than 4,194,304 bytes.
     TooLong,
     /// The fault of its first faulty line; or that a run has no such state, since the epoch ends at or behind the
-    /// limit.
+    /// limit, or the cycle lies behind it.
     Faulty(StateFault),
+    /// It is of a later cycle than the one that is to be looked at.
+    PastCycle,
+    /// A node of the state that a run from it comes to has executed more instructions than a state can say.
+    TooMany,
 }
 
 /// Why the moves of a sweep are refused.

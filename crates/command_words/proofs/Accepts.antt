@@ -1,7 +1,7 @@
 -- What is accepted behind the name of each command.
 use Rattle.std.proofs.Common.{◌≡◌, ℕ, ◌<◌, ◌≤◌, ◌&&◌, if◌then◌else◌, Bool, true, false, is_some, option_map, List, Option, Some, None, [], ◌∷◌, codes, length, map, refl, arith}
 use Rattle.std.proofs.lemmas.Slice.Eq.{bytes_eq-Decides}
-use Rattle.command_words.specs.Words.{Asked, Node, Run, RunPlain, Monitor, Sniff, Check, Disasm, Asm, Make, Head, Save, Resume, HeadOn, SaveOn, MonitorSpan, Sweep, as_make, as_plain_run, as_resume, as_span, as_sweep, asked_by, cycles_of, epochs_of, file_behind, is_file, is_word, or_else, sample_of, span_of, with_number, with_state}
+use Rattle.command_words.specs.Words.{Asked, Node, Run, RunPlain, Monitor, Sniff, Check, Disasm, Asm, Make, Head, Save, Resume, HeadOn, SaveOn, MonitorSpan, Sweep, Look, LookOn, as_make, as_plain_run, as_resume, as_span, as_sweep, asked_by, bound_of, cycles_of, epochs_of, file_behind, is_file, is_word, or_else, sample_of, span_of, with_number, with_state}
 
 absent : (b : Bool) → (b ≡ true → ⊥) → b ≡ false
 absent true h = absurd (h refl)
@@ -70,6 +70,10 @@ pub save_triple : (file epochs : List ℕ) → is_some (asked_by (codes "save" �
 unfolding asked_by with_number file_behind as_plain_run as_make as_resume with_state as_span as_sweep
 save_triple file epochs = number_test (Save file) (is_file file) (epochs_of epochs)
 
+pub look_triple : (file cycle : List ℕ) → is_some (asked_by (codes "look" ∷ file ∷ cycle ∷ [])) ≡ is_file file && is_some (bound_of cycle)
+unfolding asked_by with_number file_behind as_plain_run as_make as_resume with_state as_span as_sweep
+look_triple file cycle = number_test (Look file) (is_file file) (bound_of cycle)
+
 some_if : (asked : Asked) (b : Bool) → is_some (or_else (if b then Some asked else None) None) ≡ b
 some_if asked true = refl
 some_if asked false = refl
@@ -87,9 +91,10 @@ unfolding asked_by with_number file_behind as_plain_run as_make as_resume with_s
 run_triple option file = run_test file (is_word (codes "--plain") option && is_file file)
 
 pub no_triple : (word first second : List ℕ) → is_word (codes "node") word ≡ false → is_word (codes "run") word ≡ false
-    → is_word (codes "head") word ≡ false → is_word (codes "save") word ≡ false → is_word (codes "resume") word ≡ false → is_some (asked_by (word ∷ first ∷ second ∷ [])) ≡ false
+    → is_word (codes "head") word ≡ false → is_word (codes "save") word ≡ false → is_word (codes "resume") word ≡ false → is_word (codes "look") word ≡ false
+    → is_some (asked_by (word ∷ first ∷ second ∷ [])) ≡ false
 unfolding asked_by with_number file_behind as_plain_run as_make as_resume with_state as_span as_sweep
-no_triple word first second node run head save resume = rw (node, run, head, save, resume) refl
+no_triple word first second node run head save resume look = rw (node, run, head, save, resume, look) refl
 
 pub too_few : {A : Type 0} (text : A → List ℕ) (words : List A) → length words < 2 → is_some (asked_by (map text words)) ≡ false
 unfolding asked_by with_number file_behind as_plain_run as_make as_resume with_state as_span as_sweep
@@ -110,6 +115,15 @@ pub save_on : (file epochs state : List ℕ) → is_some (asked_by (codes "save"
 unfolding asked_by with_number file_behind as_plain_run as_make as_resume with_state as_span as_sweep
 save_on file epochs state = number_on_test file state SaveOn (is_file file && is_file state) (epochs_of epochs)
 
+number_last_test : (file state : List ℕ) (form : List ℕ → ℕ → List ℕ → Asked) (b : Bool) (o : Option ℕ) → is_some (if b then option_map (λ n. form file n state) o else None) ≡ b && is_some o
+number_last_test file state form true (Some n) = refl
+number_last_test file state form true None = refl
+number_last_test file state form false o = refl
+
+pub look_on : (file cycle state : List ℕ) → is_some (asked_by (codes "look" ∷ file ∷ cycle ∷ state ∷ [])) ≡ is_file file && is_file state && is_some (bound_of cycle)
+unfolding asked_by with_number file_behind as_plain_run as_make as_resume with_state as_span as_sweep
+look_on file cycle state = number_last_test file state LookOn (is_file file && is_file state) (bound_of cycle)
+
 span_test : (file : List ℕ) (b : Bool) (o : Option (ℕ × ℕ)) → is_some (or_else (if b then option_map (λ p. MonitorSpan file p.0 p.1) o else None) None) ≡ b && is_some o
 span_test file true (Some p) = refl
 span_test file true None = refl
@@ -119,18 +133,14 @@ pub monitor_span : (file from to : List ℕ) → is_some (asked_by (codes "monit
 unfolding asked_by with_number file_behind as_plain_run as_make as_resume with_state as_span as_sweep
 monitor_span file from to = span_test file (is_file file) (span_of from to)
 
-sweep_test : (asked : Asked) (b : Bool) → is_some (if b then Some asked else None) ≡ b
-sweep_test asked true = refl
-sweep_test asked false = refl
-
 pub sweep_files : (file state moves : List ℕ) → is_some (asked_by (codes "sweep" ∷ file ∷ state ∷ moves ∷ [])) ≡ is_file file && is_file state && is_file moves
 unfolding asked_by with_number file_behind as_plain_run as_make as_resume with_state as_span as_sweep
-sweep_files file state moves = sweep_test (Sweep file state moves) (is_file file && is_file state && is_file moves)
+sweep_files file state moves = some_if (Sweep file state moves) (is_file file && is_file state && is_file moves)
 
 pub no_quadruple : (word first second third : List ℕ) → is_word (codes "head") word ≡ false → is_word (codes "save") word ≡ false → is_word (codes "monitor") word ≡ false → is_word (codes "sweep") word ≡ false
-    → is_some (asked_by (word ∷ first ∷ second ∷ third ∷ [])) ≡ false
+    → is_word (codes "look") word ≡ false → is_some (asked_by (word ∷ first ∷ second ∷ third ∷ [])) ≡ false
 unfolding asked_by with_number file_behind as_plain_run as_make as_resume with_state as_span as_sweep
-no_quadruple word first second third head save monitor sweep = rw (head, save, monitor, sweep) refl
+no_quadruple word first second third head save monitor sweep look = rw (head, save, monitor, sweep, look) refl
 
 pub too_many : {A : Type 0} (text : A → List ℕ) (words : List A) → 5 ≤ length words → is_some (asked_by (map text words)) ≡ false
 unfolding asked_by with_number file_behind as_plain_run as_make as_resume with_state as_span as_sweep

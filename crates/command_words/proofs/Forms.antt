@@ -6,7 +6,7 @@ use Rattle.std.proofs.lemmas.Slice.Eq.{bytes_eq-Decides}
 use Rattle.std.specs.Prelude.{IfSome}
 use Rattle.air_base.specs.Bounds.{LAST_CYCLE}
 use Rattle.command_words.specs.declared.command.Command.{Command}
-use Rattle.command_words.specs.Words.{Asked, Node, Run, RunPlain, Monitor, Sniff, Check, Disasm, Asm, Make, Head, Save, Resume, HeadOn, SaveOn, MonitorSpan, Sweep, as_make, as_plain_run, as_resume, as_span, as_sweep, asked_by, cycles_of, epochs_of, bound_of, file_behind, in_order, is_file, is_word, or_else, sample_of, shown, span_of, with_number, with_state, IsInLimits}
+use Rattle.command_words.specs.Words.{Asked, Node, Run, RunPlain, Monitor, Sniff, Check, Disasm, Asm, Make, Head, Save, Resume, HeadOn, SaveOn, MonitorSpan, Sweep, Look, LookOn, as_make, as_plain_run, as_resume, as_span, as_sweep, asked_by, cycles_of, epochs_of, bound_of, file_behind, in_order, is_file, is_word, or_else, sample_of, shown, span_of, with_number, with_state, IsInLimits}
 use Rattle.command_words.proofs.Numerals.{number_limits}
 
 -- the two numbers of a span
@@ -33,6 +33,8 @@ pub data Form : List (List ℕ) → Asked → Type 0 where
   IsSaveOn : (file epochs state : List ℕ) (n : ℕ) → is_file file ≡ true → epochs_of epochs ≡ Some n → is_file state ≡ true → Form (codes "save" ∷ file ∷ epochs ∷ state ∷ []) (SaveOn file n state)
   IsMonitorSpan : (file from to : List ℕ) (a b : ℕ) → is_file file ≡ true → Span from to a b → Form (codes "monitor" ∷ file ∷ from ∷ to ∷ []) (MonitorSpan file a b)
   IsSweep : (file state moves : List ℕ) → is_file file ≡ true → is_file state ≡ true → is_file moves ≡ true → Form (codes "sweep" ∷ file ∷ state ∷ moves ∷ []) (Sweep file state moves)
+  IsLook : (file cycle : List ℕ) (n : ℕ) → is_file file ≡ true → bound_of cycle ≡ Some n → Form (codes "look" ∷ file ∷ cycle ∷ []) (Look file n)
+  IsLookOn : (file cycle state : List ℕ) (n : ℕ) → is_file file ≡ true → bound_of cycle ≡ Some n → is_file state ≡ true → Form (codes "look" ∷ file ∷ cycle ∷ state ∷ []) (LookOn file n state)
 
 same : (name word : List ℕ) → is_word name word ≡ true → word ≡ name
 same name word h = (bytes_eq-Decides word name).0 h
@@ -59,9 +61,9 @@ module _ (name : List ℕ) (read : List ℕ → Option ℕ) (made : List ℕ →
   of_number (a ∷ b ∷ c ∷ d ∷ more) asked h = absurd (cc)
 
 -- a command with a file, a number and a state
-module _ (name : List ℕ) (made : List ℕ → ℕ → List ℕ → Asked)
-    (form : (file number state : List ℕ) (n : ℕ) → is_file file ≡ true → epochs_of number ≡ Some n → is_file state ≡ true → Form (name ∷ file ∷ number ∷ state ∷ []) (made file n state)) where
-  state_form : (word file number state : List ℕ) (b : Bool) → b ≡ (is_word name word && is_file file && is_file state) → (o : Option ℕ) → o ≡ epochs_of number → (asked : Asked)
+module _ (name : List ℕ) (read : List ℕ → Option ℕ) (made : List ℕ → ℕ → List ℕ → Asked)
+    (form : (file number state : List ℕ) (n : ℕ) → is_file file ≡ true → read number ≡ Some n → is_file state ≡ true → Form (name ∷ file ∷ number ∷ state ∷ []) (made file n state)) where
+  state_form : (word file number state : List ℕ) (b : Bool) → b ≡ (is_word name word && is_file file && is_file state) → (o : Option ℕ) → o ≡ read number → (asked : Asked)
       → (if b then option_map (λ n. made file n state) o else None) ≡ Some asked → Form (word ∷ file ∷ number ∷ state ∷ []) asked
   state_form word file number state false e o f asked h = absurd (cc)
   state_form word file number state true e None f asked h = absurd (cc)
@@ -72,7 +74,7 @@ module _ (name : List ℕ) (made : List ℕ → ℕ → List ℕ → Asked)
       let a : made file n state ≡ asked = cc in
       rw (w, ← a) (form file number state n q.1 (sym f) p.1)
 
-  of_state : (words : List (List ℕ)) (asked : Asked) → with_state name made words ≡ Some asked → Form words asked
+  of_state : (words : List (List ℕ)) (asked : Asked) → with_state name read made words ≡ Some asked → Form words asked
   unfolding with_state
   of_state [] asked h = absurd (cc)
   of_state (a ∷ []) asked h = absurd (cc)
@@ -242,10 +244,12 @@ form_of words asked h =
     (either words asked (with_number (codes "head") epochs_of Head words) _ (of_number (codes "head") epochs_of Head IsHead words asked)
     (either words asked (with_number (codes "save") epochs_of Save words) _ (of_number (codes "save") epochs_of Save IsSave words asked)
     (either words asked (as_resume words) _ (of_resume words asked)
-    (either words asked (with_state (codes "head") HeadOn words) _ (of_state (codes "head") HeadOn IsHeadOn words asked)
-    (either words asked (with_state (codes "save") SaveOn words) _ (of_state (codes "save") SaveOn IsSaveOn words asked)
+    (either words asked (with_state (codes "head") epochs_of HeadOn words) _ (of_state (codes "head") epochs_of HeadOn IsHeadOn words asked)
+    (either words asked (with_state (codes "save") epochs_of SaveOn words) _ (of_state (codes "save") epochs_of SaveOn IsSaveOn words asked)
     (either words asked (as_span words) _ (of_span words asked)
-    (of_sweep words asked))))))))))))))) h
+    (either words asked (as_sweep words) _ (of_sweep words asked)
+    (either words asked (with_number (codes "look") bound_of Look words) _ (of_number (codes "look") bound_of Look IsLook words asked)
+    (of_state (codes "look") bound_of LookOn IsLookOn words asked))))))))))))))))) h
 
 pub in_limits : (words : List (List ℕ)) (asked : Asked) → Form words asked → IsInLimits asked
 in_limits _ _ (IsNode file cycles n f e) = number_limits 8 1 10000000 cycles n e
@@ -266,6 +270,8 @@ in_limits _ _ (IsMonitorSpan file from to a b f s) =
     let order : nat_le a b ≡ true = s.order in
     (grind (arith, nat_tests), (number_limits 13 0 LAST_CYCLE to b s.to_is).1)
 in_limits _ _ (IsSweep file state moves f g h) = tt
+in_limits _ _ (IsLook file cycle n f e) = (number_limits 13 0 LAST_CYCLE cycle n e).1
+in_limits _ _ (IsLookOn file cycle state n f e g) = (number_limits 13 0 LAST_CYCLE cycle n e).1
 
 -- a command that is what the words ask for
 pub command_in_limits : (words : List (List ℕ)) (command : Option Command) → option_map shown command ≡ asked_by words → IfSome command (λ o. IsInLimits (shown o))

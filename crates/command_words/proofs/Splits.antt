@@ -5,11 +5,11 @@ use Rattle.std.specs.Str.{bytes_eq}
 use Rattle.clap.specs.Lexer.{strip_byte}
 use Rattle.clap.specs.Words.{subcommand_of, takes}
 use Rattle.clap.proofs.OnLiterals.{clap_on_literals}
-use Rattle.command_words.specs.Words.{Asked, Node, Run, RunPlain, Monitor, Sniff, Check, Disasm, Asm, Make, Head, Save, Resume, HeadOn, SaveOn, MonitorSpan, Sweep, asked_by, epochs_of, is_file, span_of}
+use Rattle.command_words.specs.Words.{Asked, Node, Run, RunPlain, Monitor, Sniff, Check, Disasm, Asm, Make, Head, Save, Resume, HeadOn, SaveOn, MonitorSpan, Sweep, Look, LookOn, asked_by, bound_of, epochs_of, is_file, span_of}
 use Rattle.command_words.specs.Apps.{the_app}
 use Rattle.command_words.specs.Split.{asked_in, asked_of, cut_in, from_in, read_in, watch_in, within_in}
 use Rattle.command_words.proofs.Numerals.{number_file}
-use Rattle.command_words.proofs.Forms.{Form, Span, IsNode, IsRun, IsPlainRun, IsMonitor, IsSniff, IsCheck, IsDisasm, IsAsm, IsMake, IsHead, IsSave, IsResume, IsHeadOn, IsSaveOn, IsMonitorSpan, IsSweep, form_of}
+use Rattle.command_words.proofs.Forms.{Form, Span, IsNode, IsRun, IsPlainRun, IsMonitor, IsSniff, IsCheck, IsDisasm, IsAsm, IsMake, IsHead, IsSave, IsResume, IsHeadOn, IsSaveOn, IsMonitorSpan, IsSweep, IsLook, IsLookOn, form_of}
 
 -- a word that `clap` takes for a value
 record Plain (word : List ℕ) : Type 0 where
@@ -77,6 +77,15 @@ taken _ _ (IsSweep file state moves f g h) =
     let b = plain_file state g in
     let c = plain_file moves h in
     simp (a.short, a.long) (simp (b.short, b.long) (simp (c.short, c.long) (refl {a = true})))
+taken _ _ (IsLook file cycle n f e) =
+    let a = plain_file file f in
+    let b = plain_file cycle (number_file 13 0 LAST_CYCLE cycle n e) in
+    simp (a.short, a.long, b.short, b.long) (refl {a = true})
+taken _ _ (IsLookOn file cycle state n f e g) =
+    let a = plain_file file f in
+    let b = plain_file cycle (number_file 13 0 LAST_CYCLE cycle n e) in
+    let c = plain_file state g in
+    simp (a.short, a.long, b.short, b.long, c.short, c.long) (refl {a = true})
 
 -- and its matches ask for what the words ask for
 pub kept : (words : List (List ℕ)) (asked : Asked) → Form words asked → asked_of (subcommand_of the_app words) ≡ Some asked
@@ -128,6 +137,16 @@ kept _ _ (IsSweep file state moves f g h) =
     let b = plain_file state g in
     let c = plain_file moves h in
     simp (a.short, a.long, b.short, b.long, c.short, c.long) (refl {a = Some (Sweep file state moves)})
+kept _ _ (IsLook file cycle n f e) =
+    let a = plain_file file f in
+    let b = plain_file cycle (number_file 13 0 LAST_CYCLE cycle n e) in
+    simp (a.short, a.long, b.short, b.long, e) (refl {a = Some (Look file n)})
+kept _ _ (IsLookOn file cycle state n f e g) =
+    let a = plain_file file f in
+    let b = plain_file cycle (number_file 13 0 LAST_CYCLE cycle n e) in
+    let c = plain_file state g in
+    let asked : option_map (from_in Look LookOn file (Some state)) (bound_of cycle) ≡ Some (LookOn file n state) = ap (option_map (from_in Look LookOn file (Some state))) e in
+    simp (a.short, a.long, b.short, b.long, c.short, c.long) asked
 
 some_of : (o : Option Asked) → is_some o ≡ true → (asked : Asked) × (o ≡ Some asked)
 some_of None h = absurd (cc)

@@ -32,9 +32,9 @@ run_app = with_rule (with_rule (new_app (codes "run")) plain_flag) (required (co
 abbrev pub one_word_app : Text → Text → App
 one_word_app name id = with_rule (new_app name) (required id)
 
--- a subcommand that cuts a run: a file, a number of epochs, and maybe the file of a state
-abbrev pub cut_app : Text → App
-cut_app name = with_rule (two_words_app name (codes "epochs")) (optional (codes "state"))
+-- a subcommand that cuts a run: a file, a number, and maybe the file of a state
+abbrev pub cut_app : Text → Text → App
+cut_app name id = with_rule (two_words_app name id) (optional (codes "state"))
 
 -- a file, and maybe two cycles
 abbrev pub monitor_app : App
@@ -54,7 +54,9 @@ simulating app = with_subcommand (with_subcommand (with_subcommand app node_app.
 
 -- those that watch what they simulate
 abbrev pub watching : App → App
-watching app = with_subcommand (with_subcommand app monitor_app.top) (one_word_app (codes "sniff") (codes "file")).top
+watching app =
+    with_subcommand (with_subcommand (with_subcommand app monitor_app.top) (one_word_app (codes "sniff") (codes "file")).top)
+    (cut_app (codes "look") (codes "cycle")).top
 
 -- those that simulate nothing
 abbrev pub reading : App → App
@@ -65,7 +67,7 @@ reading app =
 -- and those that cut a run, or go on with one
 abbrev pub cutting : App → App
 cutting app =
-    with_subcommand (with_subcommand (with_subcommand (with_subcommand app (cut_app (codes "head")).top) (cut_app (codes "save")).top)
+    with_subcommand (with_subcommand (with_subcommand (with_subcommand app (cut_app (codes "head") (codes "epochs")).top) (cut_app (codes "save") (codes "epochs")).top)
     (two_words_app (codes "resume") (codes "state")).top) sweep_app.top
 
 abbrev pub the_app : App

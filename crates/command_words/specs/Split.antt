@@ -3,7 +3,7 @@ use Rattle.std.specs.Prelude.{ℕ, List, [], codes, Option, Some, None, option_m
 use Rattle.std.specs.Option.{option_map_or}
 use Rattle.std.specs.Str.{bytes_eq}
 use Rattle.clap.specs.Words.{Row, Text, first_of}
-use Rattle.command_words.specs.Words.{Asked, Node, Run, RunPlain, Monitor, Sniff, Check, Disasm, Asm, Make, Head, Save, Resume, HeadOn, SaveOn, MonitorSpan, Sweep, cycles_of, epochs_of, sample_of, span_of}
+use Rattle.command_words.specs.Words.{Asked, Node, Run, RunPlain, Monitor, Sniff, Check, Disasm, Asm, Make, Head, Save, Resume, HeadOn, SaveOn, MonitorSpan, Sweep, Look, LookOn, bound_of, cycles_of, epochs_of, sample_of, span_of}
 
 -- the word of this name, or no text
 abbrev pub text_in : Text → List Row → Text
@@ -22,8 +22,8 @@ node_in rows = option_map (Node (text_in (codes "file") rows)) (cycles_of (text_
 
 -- with the file of a state from that state on, without one from reset on
 abbrev pub from_in : (List ℕ → ℕ → Asked) → (List ℕ → ℕ → List ℕ → Asked) → List ℕ → Option Text → ℕ → Asked
-from_in reset onward file None epochs = reset file epochs
-from_in reset onward file (Some state) epochs = onward file epochs state
+from_in reset onward file None number = reset file number
+from_in reset onward file (Some state) number = onward file number state
 
 abbrev pub head_in : List Row → Option Asked
 head_in rows =
@@ -32,6 +32,10 @@ head_in rows =
 abbrev pub save_in : List Row → Option Asked
 save_in rows =
     option_map (from_in Save SaveOn (text_in (codes "file") rows) (first_of (codes "state") rows)) (epochs_of (text_in (codes "epochs") rows))
+
+abbrev pub look_in : List Row → Option Asked
+look_in rows =
+    option_map (from_in Look LookOn (text_in (codes "file") rows) (first_of (codes "state") rows)) (bound_of (text_in (codes "cycle") rows))
 
 -- over a span of cycles where one is given
 abbrev pub within_in : List ℕ → Option Text → Text → Option Asked
@@ -63,6 +67,7 @@ unfoldable pub watch_in : Text → List Row → Option Asked
 watch_in name rows =
     if bytes_eq name (codes "monitor") then monitor_in rows
     else if bytes_eq name (codes "sniff") then Some (Sniff (text_in (codes "file") rows))
+    else if bytes_eq name (codes "look") then look_in rows
     else read_in name rows
 
 -- what any subcommand asks for with these words

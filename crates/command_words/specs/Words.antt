@@ -45,6 +45,10 @@ pub data Asked : Type 0 where
   -- simulate the network of the scenario in this file from the state in the second one on, once for each line of the
   -- third one, with the input that the line says
   Sweep : (file state moves : List ℕ) → Asked
+  -- simulate the network of the scenario in this file up to a cycle, and write the state in which it is as that begins
+  Look : (file : List ℕ) (cycle : ℕ) → Asked
+  -- the same from the state in that file on
+  LookOn : (file : List ℕ) (cycle : ℕ) (state : List ℕ) → Asked
 
 -- what the code's value asks for
 abbrev pub shown : Command → Asked
@@ -64,6 +68,8 @@ shown (variant.HeadOn file epochs state) = HeadOn file.now epochs state.now
 shown (variant.SaveOn file epochs state) = SaveOn file.now epochs state.now
 shown (variant.MonitorSpan file from to) = MonitorSpan file.now from to
 shown (variant.Sweep file state moves) = Sweep file.now state.now moves.now
+shown (variant.Look file cycle) = Look file.now cycle
+shown (variant.LookOn file cycle state) = LookOn file.now cycle state.now
 
 abbrev pub is_word : List ℕ → List ℕ → Bool
 is_word name word = pointwise ◌==◌ word name
@@ -92,7 +98,7 @@ sample_of word = number_of 5 0 65535 word
 abbrev pub epochs_of : List ℕ → Option ℕ
 epochs_of word = number_of 7 1 9999999 word
 
--- FROM, or TO: one to thirteen decimal digits that write a cycle of at most 1,099,511,627,776
+-- CYCLE, FROM, or TO: one to thirteen decimal digits that write a cycle of at most 1,099,511,627,776
 abbrev pub bound_of : List ℕ → Option ℕ
 bound_of word = number_of 13 0 LAST_CYCLE word
 
@@ -104,7 +110,8 @@ in_order _ _ = None
 unfoldable pub span_of : List ℕ → List ℕ → Option (ℕ × ℕ)
 span_of from to = in_order (bound_of from) (bound_of to)
 
--- the FILE and the number of a command that has these two: `node FILE CYCLES`, `head FILE N`, `save FILE N`
+-- the FILE and the number of a command that has these two: `node FILE CYCLES`, `head FILE N`, `save FILE N`, `look FILE
+-- CYCLE`
 unfoldable pub with_number : List ℕ → (List ℕ → Option ℕ) → (List ℕ → ℕ → Asked) → List (List ℕ) → Option Asked
 with_number name read made (command ∷ file ∷ number ∷ []) =
     if is_word name command && is_file file then option_map (made file) (read number) else None
@@ -133,12 +140,13 @@ as_resume (command ∷ file ∷ state ∷ []) =
     if is_word (codes "resume") command && is_file file && is_file state then Some (Resume file state) else None
 as_resume _ = None
 
--- the FILE, the N and the STATE of a command that has these three: `head FILE N STATE`, `save FILE N STATE`
-unfoldable pub with_state : List ℕ → (List ℕ → ℕ → List ℕ → Asked) → List (List ℕ) → Option Asked
-with_state name made (command ∷ file ∷ number ∷ state ∷ []) =
-    if is_word name command && is_file file && is_file state then option_map (λ epochs. made file epochs state) (epochs_of number)
+-- the FILE, the number and the STATE of a command that has these three: `head FILE N STATE`, `save FILE N STATE`, `look
+-- FILE CYCLE STATE`
+unfoldable pub with_state : List ℕ → (List ℕ → Option ℕ) → (List ℕ → ℕ → List ℕ → Asked) → List (List ℕ) → Option Asked
+with_state name read made (command ∷ file ∷ number ∷ state ∷ []) =
+    if is_word name command && is_file file && is_file state then option_map (λ n. made file n state) (read number)
     else None
-with_state name made _ = None
+with_state name read made _ = None
 
 -- `monitor FILE FROM TO`
 unfoldable pub as_span : List (List ℕ) → Option Asked
@@ -172,13 +180,16 @@ asked_by words =
     (or_else (with_number (codes "head") epochs_of Head words)
     (or_else (with_number (codes "save") epochs_of Save words)
     (or_else (as_resume words)
-    (or_else (with_state (codes "head") HeadOn words)
-    (or_else (with_state (codes "save") SaveOn words)
+    (or_else (with_state (codes "head") epochs_of HeadOn words)
+    (or_else (with_state (codes "save") epochs_of SaveOn words)
     (or_else (as_span words)
-    (as_sweep words)))))))))))))))
+    (or_else (as_sweep words)
+    (or_else (with_number (codes "look") bound_of Look words)
+    (with_state (codes "look") bound_of LookOn words)))))))))))))))))
 
 -- the number of cycles, where there is one, is from 1 to 10,000,000, that of a sample at most 65,535, that of epochs
--- from 1 to 9,999,999, and a span ends not before it begins and at most at 1,099,511,627,776
+-- from 1 to 9,999,999, a cycle that is looked at at most 1,099,511,627,776, and a span ends not before it begins and at
+-- most at 1,099,511,627,776
 abbrev pub IsInLimits : Asked → Type 0
 IsInLimits (Node file cycles) = (1 ≤ cycles) × (cycles ≤ 10000000)
 IsInLimits (Run file) = Unit {0}
@@ -196,3 +207,5 @@ IsInLimits (HeadOn file epochs state) = (1 ≤ epochs) × (epochs ≤ 9999999)
 IsInLimits (SaveOn file epochs state) = (1 ≤ epochs) × (epochs ≤ 9999999)
 IsInLimits (MonitorSpan file from to) = (from ≤ to) × (to ≤ LAST_CYCLE)
 IsInLimits (Sweep file state moves) = Unit {0}
+IsInLimits (Look file cycle) = cycle ≤ LAST_CYCLE
+IsInLimits (LookOn file cycle state) = cycle ≤ LAST_CYCLE

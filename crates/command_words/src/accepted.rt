@@ -3,7 +3,7 @@
 ghost use Rattle.std.specs.Prelude.{[], ◌≡◌, ◌∷◌, is_some, map};
 ghost use Rattle.command_words.specs.Words.{asked_by};
 
-use crate::operands::{cycles, epochs, is_file, sample, span};
+use crate::operands::{bound, cycles, epochs, is_file, sample, span};
 
 // Whether the word behind the name of a command that takes one is accepted.
 fn is_pair(command: &str, word: &str) -> bool
@@ -25,6 +25,7 @@ fn is_triple(command: &str, first: &str, second: &str) -> bool
         "run" => (first == "--plain") & is_file(second),
         "head" | "save" => is_file(first) & epochs(second).is_some(),
         "resume" => is_file(first) & is_file(second),
+        "look" => is_file(first) & bound(second).is_some(),
         _ => false,
     }
 }
@@ -37,6 +38,7 @@ fn is_quadruple(command: &str, first: &str, second: &str, third: &str) -> bool
         "head" | "save" => is_file(first) & is_file(third) & epochs(second).is_some(),
         "monitor" => is_file(first) & span(second, third).is_some(),
         "sweep" => is_file(first) & is_file(second) & is_file(third),
+        "look" => is_file(first) & is_file(third) & bound(second).is_some(),
         _ => false,
     }
 }

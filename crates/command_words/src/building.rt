@@ -26,7 +26,7 @@ struct Form {
 }
 
 // The forms, but for `run` with and without its flag, which are one.
-static FORMS: [Form; 12] = [
+static FORMS: [Form; 13] = [
     Form {
         name: "node",
         words: &[Word::Required("file"), Word::Required("cycles")],
@@ -50,6 +50,14 @@ static FORMS: [Form; 12] = [
     Form {
         name: "sniff",
         words: &[Word::Required("file")],
+    },
+    Form {
+        name: "look",
+        words: &[
+            Word::Required("file"),
+            Word::Required("cycle"),
+            Word::Optional("state"),
+        ],
     },
     Form {
         name: "check",

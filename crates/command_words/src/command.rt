@@ -77,6 +77,19 @@ pub enum Command<'w> {
         from: u64,
         to: u64,
     },
+    /// `look FILE CYCLE`: simulate the network of this scenario up to a cycle, at most 1,099,511,627,776, and write the
+    /// state in which it is as that cycle begins.
+    Look {
+        file: &'w str,
+        cycle: u64,
+    },
+    /// `look FILE CYCLE STATE`: simulate the network of this scenario from the state in this file on up to a cycle, at
+    /// most 1,099,511,627,776, and write the state in which it is as that cycle begins.
+    LookOn {
+        file: &'w str,
+        cycle: u64,
+        state: &'w str,
+    },
     /// `sweep FILE STATE MOVES`: simulate the network of this scenario from the state in the second file on, once for
     /// each line of the third one, with the input that the line says in place of that of a node.
     Sweep {

@@ -59,8 +59,8 @@ pub fn epochs(word: &str) -> Option<u64>
     number(word, 7, 1, 9_999_999)
 }
 
-// The cycle that a word gives as a bound of a span.
-fn bound(word: &str) -> Option<u64>
+/// The cycle that a word gives: one to thirteen decimal digits, no sign, at most 1,099,511,627,776.
+pub fn bound(word: &str) -> Option<u64>
     ensures value { result ≡ bound_of word.now }
     ensures limits { IfSome result (λ n. n ≤ LAST_CYCLE) }
 {

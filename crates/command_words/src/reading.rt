@@ -2,10 +2,10 @@
 ghost use Rattle.std.specs.Prelude.{◌≡◌, option_map};
 ghost use Rattle.clap.specs.Words.{first_of, found_of, rows_of, subcommand_rows_of};
 ghost use Rattle.command_words.specs.Words.{shown};
-ghost use Rattle.command_words.specs.Split.{asked_in, asked_of, cut_in, head_in, make_in, monitor_in, node_in, read_in, run_in, save_in, text_in, watch_in};
+ghost use Rattle.command_words.specs.Split.{asked_in, asked_of, cut_in, head_in, look_in, make_in, monitor_in, node_in, read_in, run_in, save_in, text_in, watch_in};
 
 use crate::Command;
-use crate::operands::{cycles, epochs, sample, span};
+use crate::operands::{bound, cycles, epochs, sample, span};
 use clap::ArgMatches;
 
 fn word_at<'w>(matches: &ArgMatches<'w>, id: &str) -> Option<&'w str>
@@ -63,6 +63,19 @@ fn save_command<'w>(matches: &ArgMatches<'w>) -> Option<Command<'w>>
                 state,
             }),
             None => Some(Command::Save { file, epochs }),
+        },
+        None => None,
+    }
+}
+
+fn look_command<'w>(matches: &ArgMatches<'w>) -> Option<Command<'w>>
+    ensures { option_map shown result ≡ look_in (rows_of (found_of matches.now)) }
+{
+    let file = text_at(matches, "file");
+    match bound(text_at(matches, "cycle")) {
+        Some(cycle) => match word_at(matches, "state") {
+            Some(state) => Some(Command::LookOn { file, cycle, state }),
+            None => Some(Command::Look { file, cycle }),
         },
         None => None,
     }
@@ -126,6 +139,7 @@ fn watching_in<'w>(name: &str, matches: &ArgMatches<'w>) -> Option<Command<'w>>
         "sniff" => Some(Command::Sniff {
             file: text_at(matches, "file"),
         }),
+        "look" => look_command(matches),
         _ => reading_in(name, matches),
     }
 }

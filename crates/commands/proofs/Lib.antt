@@ -10,7 +10,9 @@ pub mod Epochs
 pub mod Traces
 -- What each status says of a call.
 pub mod Statuses
--- A network and a state of it that are read, from which the run is to be cut.
+-- A network and a state of it that are read, from which the run is to go on up to some cycle.
 pub mod Onwards
+-- States that are written of a run at any of its cycles, and of one from a state on.
+pub mod Coming
 -- What is read for a sweep, and the runs that it writes one behind another.
 pub mod SweepRuns

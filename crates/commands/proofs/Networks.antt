@@ -42,10 +42,10 @@ module _ (files files' : Files) (first : Plan ScenarioParts) where
 
 -- ---- a network with another window
 
-within : (a b : ℕ) → a ≤ b → nat_le a b ≡ true
+pub within : (a b : ℕ) → a ≤ b → nat_le a b ≡ true
 within a b h = grind (arith, nat_tests)
 
-not_within : (a b : ℕ) → b < a → nat_le a b ≡ false
+pub not_within : (a b : ℕ) → b < a → nat_le a b ≡ false
 not_within a b h = grind (arith, nat_tests)
 
 module _ (files : Files) (name : List ℕ) (from to : ℕ) (parts : ScenarioParts) (reached : Reached files (scenario_plan name) (Give parts)) where

@@ -1,13 +1,14 @@
 -- What each status says of a call.
 use Rattle.std.proofs.Common.{◌≡◌, ◌≢◌, ◌⊎◌, ℕ, ◌+◌, ◌*◌, nat_le, nat_lt, Bool, if◌then◌else◌, List, Option, Some, None, is_some, true, false, Result, Ok, Err, inl, inr, refl, sym, ap, ◌∙◌, subst}
 use Rattle.sim_io.specs.Outside.{Rose}
-use Rattle.command_words.specs.Words.{Asked, Node, Run, RunPlain, Monitor, Sniff, Check, Disasm, Asm, Make, Head, Save, Resume, HeadOn, SaveOn, MonitorSpan, Sweep, asked_by, shown}
+use Rattle.command_words.specs.Words.{Asked, Node, Run, RunPlain, Monitor, Sniff, Check, Disasm, Asm, Make, Head, Save, Resume, HeadOn, SaveOn, MonitorSpan, Sweep, Look, LookOn, asked_by, shown}
 use Rattle.command_words.specs.declared.command.Command.{Command}
 use Rattle.world_core.specs.Kept.{epoch}
 use Rattle.scenario_file.specs.Scenario.{ScenarioParts}
 use Rattle.scenario_file.specs.declared.fault.ScenarioFault.TheVariants.{OutOfRange}
 use Rattle.node_runner.specs.Scenario.{ScenarioOf}
-use Rattle.checkpoint_text.specs.State.{state_in}
+use Rattle.checkpoint_text.specs.Onward.{onward}
+use Rattle.checkpoint_text.specs.State.{counts_fit, state_in}
 use Rattle.state_text.specs.Text.{StateOf}
 use Rattle.state_text.specs.declared.fault.StateFault.{StateFault}
 use Rattle.state_text.specs.declared.fault.StateFault.TheVariants.{PastEnd}
@@ -26,7 +27,7 @@ use Rattle.command_plans.specs.declared.trouble.StateCause.TheVariants as cause
 use Rattle.command_plans.specs.declared.status.Status.{Status}
 use Rattle.command_plans.specs.declared.status.Status.TheVariants as case
 use Rattle.command_plans.proofs.Endings.{KeepsWords, ends_written, ends_stopped, keeps_both, keeps_image, keeps_images, keeps_moves, keeps_reached, keeps_scenario, keeps_source, reported_stop, state_is_no_words}
-use Rattle.commands.specs.Plan.{begun_plan, cut_on_or, cut_on_plan, cut_plan, images_for, network_plan, plan, plan_for, plan_of, span_or, span_plan, state_or, state_plan, sweep_plan}
+use Rattle.commands.specs.Plan.{begun_plan, come_or, cut_on_or, cut_on_plan, cut_plan, images_for, look_from_or, look_from_plan, look_plan, network_plan, plan, plan_for, plan_of, span_or, span_plan, state_or, state_plan, sweep_plan}
 use Rattle.commands.specs.TopClause.{TopClause}
 use Rattle.commands.specs.Parts.{JobRead, Prepared, Prepares, Ready, output}
 use Rattle.commands.specs.declared.job.Job.{Job}
@@ -72,6 +73,25 @@ keeps_cut_on file epochs name =
     (λ network. keeps_both (state_plan network name) (cut_on_or name epochs network) (keeps_state network name)
     (λ state. keeps_if (nat_lt (state.cycle + epochs * epoch) network.topo.limit) _ _ (state_is_no_words name (cause.Faulty PastEnd))))
 
+keeps_look : (name : List ℕ) (cycle : ℕ) → KeepsWords (look_plan name cycle)
+keeps_look name cycle =
+    keeps_both (network_plan name) _ (keeps_network name)
+    (λ network. keeps_if (nat_le cycle network.topo.limit) network _ (state_is_no_words name (cause.Faulty PastEnd)))
+
+keeps_unless : {A : Type 0} (b : Bool) (refusal : Refusal) (rest : Plan A) → refusal ≢ BadWords → KeepsWords rest → KeepsWords (if b then Refuse refusal else rest)
+keeps_unless true refusal rest h k = h
+keeps_unless false refusal rest h k = k
+
+keeps_look_from : (file : List ℕ) (cycle : ℕ) (name : List ℕ) → KeepsWords (look_from_plan file cycle name)
+keeps_look_from file cycle name =
+    keeps_both (network_plan file) _ (keeps_network file)
+    (λ network. keeps_both (state_plan network name) (look_from_or name cycle network) (keeps_state network name)
+    (λ state. keeps_unless (nat_lt cycle state.cycle) _ _ (state_is_no_words name cause.PastCycle)
+    (keeps_if (nat_le cycle network.topo.limit) _ _ (state_is_no_words name (cause.Faulty PastEnd)))))
+
+keeps_come : (name : List ℕ) (network : ScenarioOf) (state : StateOf) (cycle : ℕ) → KeepsWords (come_or name network state cycle)
+keeps_come name network state cycle = keeps_if (counts_fit (onward network state) cycle) _ _ (state_is_no_words name cause.TooMany)
+
 keeps_begun : (file name : List ℕ) → KeepsWords (begun_plan file name)
 keeps_begun file name = keeps_both (network_plan file) _ (keeps_network file) (λ network. keeps_both (state_plan network name) _ (keeps_state network name) (λ state. tt))
 
@@ -95,7 +115,10 @@ keeps_plan (Save file epochs) = keeps_both (cut_plan file epochs) _ (keeps_cut f
 keeps_plan (Resume file state) =
     keeps_both (network_plan file) _ (keeps_network file) (λ network. keeps_both (state_plan network state) _ (keeps_state network state) (λ saved. tt))
 keeps_plan (HeadOn file epochs state) = keeps_both (cut_on_plan file epochs state) _ (keeps_cut_on file epochs state) (λ at. tt)
-keeps_plan (SaveOn file epochs state) = keeps_both (cut_on_plan file epochs state) _ (keeps_cut_on file epochs state) (λ at. tt)
+keeps_plan (SaveOn file epochs state) =
+    keeps_both (cut_on_plan file epochs state) _ (keeps_cut_on file epochs state) (λ at. keeps_come state at.0 at.1 (at.1.cycle + epochs * epoch))
+keeps_plan (Look file cycle) = keeps_both (look_plan file cycle) _ (keeps_look file cycle) (λ network. tt)
+keeps_plan (LookOn file cycle state) = keeps_both (look_from_plan file cycle state) _ (keeps_look_from file cycle state) (λ at. keeps_come state at.0 at.1 cycle)
 keeps_plan (Sweep file state moves) = keeps_both (sweep_plan file state moves) _ (keeps_sweep file state moves) (λ it. tt)
 keeps_plan (MonitorSpan file from to) = keeps_both (span_plan file from to) _ (keeps_span file from to) (λ network. tt)
 

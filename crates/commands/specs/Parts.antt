@@ -20,7 +20,7 @@ use Rattle.commands.specs.Listing.{listing}
 use Rattle.commands.specs.Network.{size_line, trace_of}
 use Rattle.commands.specs.Plan.{plan}
 use Rattle.commands.specs.Sample.{sample_line}
-use Rattle.commands.specs.Texts.{head_on_text, head_text, resume_text, save_on_text, save_text, sweep_text}
+use Rattle.commands.specs.Texts.{head_on_text, head_text, look_on_text, look_text, resume_text, sweep_text}
 use Rattle.commands.specs.TopClause.{TopClause}
 use Rattle.commands.specs.declared.job.Job.{Job}
 use Rattle.commands.specs.declared.job.Job.TheVariants as job
@@ -57,10 +57,10 @@ output (job.Disasm flash) = listing flash
 output (job.Asm words) = hex_of words.items
 output (job.Make number) = sample_line number
 output (job.Head network epochs) = head_text network epochs
-output (job.Save network epochs) = save_text network epochs
+output (job.Save network cycle) = look_text network cycle
 output (job.Resume network saved) = resume_text network saved.state
 output (job.HeadOn network saved epochs) = head_on_text network saved.state epochs
-output (job.SaveOn network saved epochs) = save_on_text network saved.state epochs
+output (job.SaveOn network saved) = look_on_text network saved.state saved.floor
 output (job.Sweep network state moves) = sweep_text network state moves.items
 
 -- a saved state of this network, with which nothing was done yet
@@ -73,12 +73,16 @@ pub record IsCutOn (network : ScenarioOf) (saved : SavedAt) (epochs : ℕ) : Typ
   pub fresh : IsFresh network saved
   pub within : saved.state.cycle + epochs * epoch < network.topo.limit
 
--- a plan that gets a network and a state of it was read, and nothing was said
-pub record HasReadOn (files : Files) (plan : Plan (ScenarioOf × StateOf)) (epochs : ℕ) (store store' : Reads) (err err' : Stream) (network : ScenarioOf) (saved : SavedAt) : Type 0 where
-  pub reached : Reached files plan (Give (network, saved.state))
-  pub same : store' ≡ store
-  pub silent : err' ≡ err
-  pub cut : IsCutOn network saved epochs
+-- and this cycle is one to which the run goes on from there
+pub record IsLookOn (network : ScenarioOf) (saved : SavedAt) (cycle : ℕ) : Type 0 where
+  pub fresh : IsFresh network saved
+  pub from : saved.state.cycle ≤ cycle
+  pub to : cycle ≤ network.topo.limit
+
+-- a run of this network from a saved state, which has come to some cycle
+pub record HasCome (network : ScenarioOf) (saved : SavedAt) : Type 0 where
+  pub same : network ≡ saved.scenario
+  pub sound : saved.failed ≡ false
 
 -- a plan was read for this, and nothing was said
 pub record HasGot {A : Type 0} (files : Files) (plan : Plan A) (store store' : Reads) (err err' : Stream) (got : A) : Type 0 where
@@ -91,7 +95,8 @@ pub record IsSweep (network : ScenarioOf) (state : StateOf) (moves : List MoveOf
   pub fit : CanResume network state
   pub known : All (λ (m : MoveOf). m.node < network.topo.nodes) moves
 
--- a program is no longer than the flash, a window that is watched ends within the run, and a run is cut below its limit
+-- a program is no longer than the flash, a window that is watched ends within the run, a run is cut below its limit, and
+-- is looked at no later
 abbrev pub IsShort : Job → Type 0
 IsShort (job.Trace network) = Unit {0}
 IsShort (job.PlainTrace network) = Unit {0}
@@ -102,10 +107,10 @@ IsShort (job.Disasm flash) = Unit {0}
 IsShort (job.Asm words) = length words.items ≤ 65536
 IsShort (job.Make number) = Unit {0}
 IsShort (job.Head network epochs) = epochs * epoch < network.topo.limit
-IsShort (job.Save network epochs) = epochs * epoch < network.topo.limit
+IsShort (job.Save network cycle) = cycle ≤ network.topo.limit
 IsShort (job.Resume network saved) = IsFresh network saved
 IsShort (job.HeadOn network saved epochs) = IsCutOn network saved epochs
-IsShort (job.SaveOn network saved epochs) = IsCutOn network saved epochs
+IsShort (job.SaveOn network saved) = HasCome network saved
 IsShort (job.Sweep network state moves) = IsSweep network state moves.items
 
 -- what a plan reads was read, this is left to do, and nothing was said

@@ -1,12 +1,13 @@
 -- What each command reads, in order, and what it is to write then.
 use Rattle.std.specs.Prelude.{ℕ, ◌+◌, ◌*◌, nat_le, nat_lt, if◌then◌else◌, List, Option, Some, None, Result, Ok, Err}
-use Rattle.command_words.specs.Words.{Asked, Node, Run, RunPlain, Monitor, Sniff, Check, Disasm, Asm, Make, Head, Save, Resume, HeadOn, SaveOn, MonitorSpan, Sweep, asked_by}
+use Rattle.command_words.specs.Words.{Asked, Node, Run, RunPlain, Monitor, Sniff, Check, Disasm, Asm, Make, Head, Save, Resume, HeadOn, SaveOn, MonitorSpan, Sweep, Look, LookOn, asked_by}
 use Rattle.world_core.specs.Kept.{epoch}
 use Rattle.scenario_file.specs.Scenario.{ScenarioParts}
 use Rattle.scenario_file.specs.declared.fault.ScenarioFault.TheVariants.{OutOfRange}
 use Rattle.moves_text.specs.Moves.{MoveOf}
 use Rattle.node_runner.specs.Scenario.{ScenarioOf}
-use Rattle.checkpoint_text.specs.State.{state_in}
+use Rattle.checkpoint_text.specs.Onward.{onward}
+use Rattle.checkpoint_text.specs.State.{counts_fit, state_in}
 use Rattle.state_text.specs.Text.{StateOf}
 use Rattle.state_text.specs.declared.fault.StateFault.{StateFault}
 use Rattle.state_text.specs.declared.fault.StateFault.TheVariants.{PastEnd}
@@ -19,7 +20,7 @@ use Rattle.run_reports.specs.Profiles.{profiles_text}
 use Rattle.commands.specs.Listing.{listing}
 use Rattle.commands.specs.Network.{lone_node, network_of, size_line, trace_of}
 use Rattle.commands.specs.Sample.{sample_line}
-use Rattle.commands.specs.Texts.{head_on_text, head_text, resume_text, save_on_text, save_text, sweep_text}
+use Rattle.commands.specs.Texts.{head_on_text, head_text, look_on_text, look_text, resume_text, save_text, sweep_text}
 
 -- read the image of each node of a scenario, for the network
 abbrev pub images_for : ScenarioParts → Plan ScenarioOf
@@ -46,6 +47,14 @@ cut_or name cycle network = if nat_lt cycle network.topo.limit then Give network
 abbrev pub cut_plan : List ℕ → ℕ → Plan ScenarioOf
 cut_plan name epochs = and_then (network_plan name) (cut_or name (epochs * epoch))
 
+-- a run can be looked at as a cycle begins that it has, and behind its last one
+abbrev pub look_or : List ℕ → ℕ → ScenarioOf → Plan ScenarioOf
+look_or name cycle network = if nat_le cycle network.topo.limit then Give network else Refuse (BadState name (cause.Faulty PastEnd))
+
+-- read a network whose run is to be looked at as this cycle begins
+abbrev pub look_plan : List ℕ → ℕ → Plan ScenarioOf
+look_plan name cycle = and_then (network_plan name) (look_or name cycle)
+
 -- a state is accepted where nothing is wrong with its text
 abbrev pub state_or : List ℕ → Result StateOf StateFault → Plan StateOf
 state_or name (Ok state) = Give state
@@ -64,6 +73,30 @@ cut_on_or name epochs network state =
 -- read a network, and then a state of it, from which its run is to be cut after so many epochs
 abbrev pub cut_on_plan : List ℕ → ℕ → List ℕ → Plan (ScenarioOf × StateOf)
 cut_on_plan file epochs name = and_then (network_plan file) (λ network. and_then (state_plan network name) (cut_on_or name epochs network))
+
+-- a run from a state on can be looked at as the state's cycle begins, or a later one
+abbrev pub look_from_or : List ℕ → ℕ → ScenarioOf → StateOf → Plan (ScenarioOf × StateOf)
+look_from_or name cycle network state =
+    if nat_lt cycle state.cycle then Refuse (BadState name cause.PastCycle)
+    else if nat_le cycle network.topo.limit then Give (network, state)
+    else Refuse (BadState name (cause.Faulty PastEnd))
+
+-- read a network, and then a state of it, from which its run is to go on up to this cycle
+abbrev pub look_from_plan : List ℕ → ℕ → List ℕ → Plan (ScenarioOf × StateOf)
+look_from_plan file cycle name = and_then (network_plan file) (λ network. and_then (state_plan network name) (look_from_or name cycle network))
+
+-- the state to which a run comes from that of this file is written where no node has executed more instructions than a
+-- state can say
+abbrev pub come_or : List ℕ → ScenarioOf → StateOf → ℕ → Plan (List ℕ)
+come_or name network state cycle =
+    if counts_fit (onward network state) cycle then Give (look_on_text network state cycle) else Refuse (BadState name cause.TooMany)
+
+-- `save` and `look` from a state on
+abbrev pub save_on_plan : List ℕ → ℕ → List ℕ → Plan (List ℕ)
+save_on_plan file epochs name = and_then (cut_on_plan file epochs name) (λ at. come_or name at.0 at.1 (at.1.cycle + epochs * epoch))
+
+abbrev pub look_on_plan : List ℕ → ℕ → List ℕ → Plan (List ℕ)
+look_on_plan file cycle name = and_then (look_from_plan file cycle name) (λ at. come_or name at.0 at.1 cycle)
 
 -- read a network, and then a state of it
 abbrev pub begun_plan : List ℕ → List ℕ → Plan (ScenarioOf × StateOf)
@@ -89,8 +122,10 @@ plan_of (Head file epochs) = and_then (cut_plan file epochs) (λ network. Give (
 plan_of (Save file epochs) = and_then (cut_plan file epochs) (λ network. Give (save_text network epochs))
 plan_of (Resume file state) = and_then (network_plan file) (λ network. and_then (state_plan network state) (λ saved. Give (resume_text network saved)))
 plan_of (HeadOn file epochs state) = and_then (cut_on_plan file epochs state) (λ at. Give (head_on_text at.0 at.1 epochs))
-plan_of (SaveOn file epochs state) = and_then (cut_on_plan file epochs state) (λ at. Give (save_on_text at.0 at.1 epochs))
+plan_of (SaveOn file epochs state) = save_on_plan file epochs state
 plan_of (Sweep file state moves) = and_then (sweep_plan file state moves) (λ it. Give (sweep_text it.0.0 it.0.1 it.1))
+plan_of (Look file cycle) = and_then (look_plan file cycle) (λ network. Give (look_text network cycle))
+plan_of (LookOn file cycle state) = look_on_plan file cycle state
 plan_of (MonitorSpan file from to) = and_then (span_plan file from to) (λ network. Give (profiles_text network))
 
 -- the plan of what the words ask for

@@ -19,6 +19,10 @@ head_text network epochs = rows_text (world_at (fleet_of network) (epochs * epoc
 abbrev pub save_text : ScenarioOf → ℕ → List ℕ
 save_text network epochs = state_text (saved_at network (epochs * epoch))
 
+-- `look`: the state in which it is as a cycle begins
+abbrev pub look_text : ScenarioOf → ℕ → List ℕ
+look_text network cycle = state_text (saved_at network cycle)
+
 -- `resume`: the trace of a network from a state on
 abbrev pub resume_text : ScenarioOf → StateOf → List ℕ
 resume_text network state = rows_text (run_rows (onward network state))
@@ -27,9 +31,9 @@ resume_text network state = rows_text (run_rows (onward network state))
 abbrev pub head_on_text : ScenarioOf → StateOf → ℕ → List ℕ
 head_on_text network state epochs = rows_text (world_at (onward network state) (state.cycle + epochs * epoch)).rows
 
--- `save` from a state on: the state in which it is then
-abbrev pub save_on_text : ScenarioOf → StateOf → ℕ → List ℕ
-save_on_text network state epochs = state_text (saved_from network state (state.cycle + epochs * epoch))
+-- `look` and `save` from a state on: the state in which it is as a cycle begins
+abbrev pub look_on_text : ScenarioOf → StateOf → ℕ → List ℕ
+look_on_text network state cycle = state_text (saved_from network state cycle)
 
 -- `sweep`: the traces of a network from a state on, one for each of these moves, one behind another
 abbrev pub sweep_text : ScenarioOf → StateOf → List MoveOf → List ℕ

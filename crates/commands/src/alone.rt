@@ -26,16 +26,18 @@ use std::alloc::Global;
 /// | `asm FILE` | the program of the source in assembly in FILE, as an image in Intel HEX |
 /// | `head FILE N` | the trace of the first N epochs of 262,144 cycles, of the network of the scenario in FILE |
 /// | `save FILE N` | the state in which it is then |
+/// | `look FILE CYCLE` | the state in which it is as cycle CYCLE begins |
 /// | `resume FILE STATE` | the trace of that network from the state in STATE on |
 /// | `head FILE N STATE` | the trace of N epochs of that network from the state in STATE on |
 /// | `save FILE N STATE` | the state in which it is then |
+/// | `look FILE CYCLE STATE` | the state in which it is as cycle CYCLE begins |
 /// | `sweep FILE STATE MOVES` | one behind another, the traces from the state in STATE on of that network, one for each line of MOVES, with the input that it says |
 /// | `make NUMBER` | what came out of the sample network of NUMBER: how often its nodes sent, and what they heard |
 ///
 /// `node` has no links and no input, and runs over CYCLES cycles; `monitor` runs up to the window's end.
 ///
 /// FILE is a word that is not empty and does not begin with `-`; CYCLES is one to eight digits, 1 to 10,000,000; NUMBER
-/// is one to five, up to 65,535; N is one to seven, 1 or more. All other words are `BadWords`. Where the answer is not
+/// is one to five, up to 65,535; N is one to seven, 1 or more; CYCLE is one to thirteen, up to 2^40. All other words are `BadWords`. Where the answer is not
 /// `Done`, `err` has one line that says why, or the write of that line failed and the answer is `SinkFailed`. A node
 /// that stops is no fault.
 pub fn avrora_alone<'w, S: Store, O: Sink, E: Sink>(

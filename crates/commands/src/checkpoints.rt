@@ -1,15 +1,15 @@
-// Saved states: one is read from its text, written as text (`save`), and gone on from (`resume`, and `head` and `save`
-// from a state).
-ghost use Rattle.std.specs.Prelude.{◌≡◌, ◌<◌, ◌+◌, ◌*◌, false, IfOk, OnOk};
+// Saved states: one is read from its text, written as text (`save` and `look`), and gone on from (`resume`, and these
+// and `head` from a state).
+ghost use Rattle.std.specs.Prelude.{◌≡◌, ◌≤◌, ◌+◌, ◌*◌, false, IfOk, OnOk};
 ghost use Rattle.checkpoint_text.specs.Onward.{CanResume, onward};
-ghost use Rattle.checkpoint_text.specs.State.{saved_at, saved_from};
-ghost use Rattle.command_plans.specs.Ends.{reads, stream};
+ghost use Rattle.command_plans.specs.Ends.{Reads, reads, stream};
 ghost use Rattle.command_plans.specs.Parts.{ReadAs, Written};
-ghost use Rattle.commands.specs.Parts.{EndsEpoch, EndsFrom, IsCutOn, IsFresh};
-ghost use Rattle.commands.specs.Plan.{state_plan};
+ghost use Rattle.command_plans.specs.Reading.{Files};
+ghost use Rattle.commands.specs.Parts.{EndsFrom, HasCome, IsCutOn, IsFresh, IsLookOn};
+ghost use Rattle.commands.specs.Plan.{come_or, state_plan};
+ghost use Rattle.commands.specs.Texts.{look_on_text, look_text};
 ghost use Rattle.world_core.specs.Kept.{epoch};
 ghost use Rattle.fleet_flight.specs.Rows.{rows_upto};
-ghost use Rattle.state_text.specs.Text.{state_text};
 ghost use Rattle.trace_writer.specs.Line.{rows_text};
 ghost use Rattle.world_core.specs.Order.{run_rows, world_at};
 
@@ -74,66 +74,84 @@ pub fn read_state_parts<'n, S: Store>(
     }
 }
 
-// Runs a network that has not begun up to the cycle `end`, where an epoch ends.
+// Runs a network that has not begun up to the cycle `end`.
 fn run_up_to(network: &Scenario, run: &mut PlainRun, end: u64) -> Result<(), NoMemory>
     requires first { run.old ≡ record { scenario = network.now; floor = 0; failed = false } }
-    requires end { EndsEpoch network.now end }
+    requires to { end ≤ network.now.topo.limit }
     ensures { OnOk result (run.new ≡ record { scenario = network.now; floor = end; failed = false }) }
 {
     while run.floor() < end {
-        run.pass(network)?;
+        run.pass(network, end)?;
     }
     Ok(())
 }
 
-/// Runs a network over its first epochs, which end below its limit, and writes the state in which it is then.
+/// Runs a network up to the cycle `cycle`, and writes the state in which it is as that begins.
 pub fn write_saved<'n, O: Sink>(
     alloc: Global,
     network: &Scenario,
-    epochs: u64,
+    cycle: u64,
     out: &mut O,
 ) -> Result<(), Trouble<'n>>
-    requires { epochs * epoch < network.now.topo.limit }
-    ensures { Written (state_text (saved_at network.now (epochs * epoch))) (stream (O.taken out.old) (O.faults out.old)) (stream (O.taken out.new) (O.faults out.new)) result }
+    requires { cycle ≤ network.now.topo.limit }
+    ensures { Written (look_text network.now cycle) (stream (O.taken out.old) (O.faults out.old)) (stream (O.taken out.new) (O.faults out.new)) result }
 {
     let Ok(mut run) = PlainRun::new(alloc, network) else {
         return Err(Trouble::NoMemory);
     };
-    let end = epochs * EPOCH;
-    let Ok(()) = run_up_to(network, &mut run, end) else {
+    let Ok(()) = run_up_to(network, &mut run, cycle) else {
         return Err(Trouble::NoMemory);
     };
     let Ok(sends) = run.sends(network) else {
         return Err(Trouble::NoMemory);
     };
-    match write_state(network, end, run.nodes(), sends.as_slice(), out) {
+    match write_state(network, cycle, run.nodes(), sends.as_slice(), out) {
         Ok(()) => Ok(()),
         Err(_) => Err(Trouble::OutFailed),
     }
 }
 
-// Goes on with a network from a saved state, with which nothing was done yet, up to the cycle `end`, where one of its
-// epochs ends.
+// Goes on with a network from a saved state, with which nothing was done yet, up to the cycle `end`.
 fn go_on(network: &Scenario, saved: &mut Saved, end: u64) -> Result<(), NoMemory>
-    requires fresh { IsFresh network.now saved.old }
-    requires end { EndsFrom network.now saved.old.state.cycle end }
+    requires look { IsLookOn network.now saved.old end }
     ensures { OnOk result (saved.new ≡ record { scenario = network.now; state = saved.old.state; floor = end; failed = false }) }
 {
     while saved.cycle() < end {
-        saved.pass(network)?;
+        saved.pass(network, end)?;
     }
     Ok(())
 }
 
-// Writes the state in which a run onward is.
-fn write_reached<'n, O: Sink>(
+/// Goes on with a network from the saved state in the file `name`, with which nothing was done yet, up to the cycle
+/// `end`. Where a node has executed more instructions then than a state can say, that state is refused.
+pub fn come_to<'w>(
+    network: &Scenario,
+    mut saved: Saved,
+    end: u64,
+    name: &'w str,
+) -> Result<Saved, Trouble<'w>>
+    requires { IsLookOn network.now saved end }
+    ensures come { IfOk result (λ come. come ≡ record { scenario = network.now; state = saved.state; floor = end; failed = false }) }
+    ensures read { (files : Files) (store : Reads) → ReadAs files (come_or name.entry.now network.now saved.state end) (λ come. look_on_text network.now saved.state end) store store result }
+{
+    let Ok(()) = go_on(network, &mut saved, end) else {
+        return Err(Trouble::NoMemory);
+    };
+    if saved.counts_fit() {
+        return Ok(saved);
+    }
+    let too_many = StateCause::TooMany;
+    Err(Trouble::Refused(Complaint::BadState(name, too_many)))
+}
+
+/// Writes the state to which a run from a saved state has come.
+pub fn write_reached<'n, O: Sink>(
     network: &Scenario,
     saved: &Saved,
     out: &mut O,
 ) -> Result<(), Trouble<'n>>
-    requires same { network.now ≡ saved.now.scenario }
-    requires sound { saved.now.failed ≡ false }
-    ensures { Written (state_text (saved_from network.now saved.now.state saved.now.floor)) (stream (O.taken out.old) (O.faults out.old)) (stream (O.taken out.new) (O.faults out.new)) result }
+    requires { HasCome network.now saved.now }
+    ensures { Written (look_on_text network.now saved.now.state saved.now.floor) (stream (O.taken out.old) (O.faults out.old)) (stream (O.taken out.new) (O.faults out.new)) result }
 {
     let Ok(sends) = saved.sends(network) else {
         return Err(Trouble::NoMemory);
@@ -141,24 +159,6 @@ fn write_reached<'n, O: Sink>(
     match write_onward_state(saved, sends.as_slice(), out) {
         Ok(()) => Ok(()),
         Err(_) => Err(Trouble::OutFailed),
-    }
-}
-
-/// Goes on with a network from a saved state, with which nothing was done yet, over so many epochs, which end below its
-/// limit, and writes the state in which it is then.
-pub fn write_saved_on<'n, O: Sink>(
-    network: &Scenario,
-    mut saved: Saved,
-    epochs: u64,
-    out: &mut O,
-) -> Result<(), Trouble<'n>>
-    requires { IsCutOn network.now saved epochs }
-    ensures { Written (state_text (saved_from network.now saved.state (saved.state.cycle + epochs * epoch))) (stream (O.taken out.old) (O.faults out.old)) (stream (O.taken out.new) (O.faults out.new)) result }
-{
-    let end = saved.cycle() + epochs * EPOCH;
-    match go_on(network, &mut saved, end) {
-        Ok(()) => write_reached(network, &saved, out),
-        Err(_) => Err(Trouble::NoMemory),
     }
 }
 

@@ -3,7 +3,7 @@ ghost use Rattle.command_plans.specs.Ends.{stream};
 ghost use Rattle.command_plans.specs.Parts.{Written};
 ghost use Rattle.commands.specs.Parts.{IsShort, output};
 
-use crate::checkpoints::{write_head_on, write_onward, write_saved, write_saved_on};
+use crate::checkpoints::{write_head_on, write_onward, write_reached, write_saved};
 use crate::frames::write_frames;
 use crate::image::write_program;
 use crate::listing::write_listing;
@@ -42,14 +42,14 @@ pub enum Job {
     Make(u16),
     /// To write the trace of the first epochs of this network, so many.
     Head(Scenario, u64),
-    /// To write the state in which this network is after so many epochs.
+    /// To write the state in which this network is as this cycle begins: for `save` and `look`.
     Save(Scenario, u64),
     /// To write the trace of this network from a saved state on.
     Resume(Scenario, Saved),
     /// To write the trace of so many epochs of this network from a saved state on.
     HeadOn(Scenario, Saved, u64),
-    /// To write the state in which this network is so many epochs after a saved state.
-    SaveOn(Scenario, Saved, u64),
+    /// To write the state to which this network has come from a saved state: for `save` and `look`.
+    SaveOn(Scenario, Saved),
     /// To write the traces of this network from a state on, one for each of these moves.
     Sweep(Scenario, StateParts, Vec<Move>),
 }
@@ -70,10 +70,10 @@ pub fn do_job<'n, O: Sink>(alloc: Global, job: Job, out: &mut O) -> Result<(), T
         Job::Asm(words) => write_program(alloc, words.as_slice(), out),
         Job::Make(number) => write_sample(alloc, number, out),
         Job::Head(network, epochs) => write_head(alloc, &network, epochs, out),
-        Job::Save(network, epochs) => write_saved(alloc, &network, epochs, out),
+        Job::Save(network, cycle) => write_saved(alloc, &network, cycle, out),
         Job::Resume(network, saved) => write_onward(&network, saved, out),
         Job::HeadOn(network, saved, epochs) => write_head_on(&network, saved, epochs, out),
-        Job::SaveOn(network, saved, epochs) => write_saved_on(&network, saved, epochs, out),
+        Job::SaveOn(network, saved) => write_reached(&network, &saved, out),
         Job::Sweep(network, state, moves) => {
             write_sweep(alloc, network, &state, moves.as_slice(), out)
         }

@@ -12,6 +12,7 @@ mod frames;
 mod image;
 mod job;
 mod listing;
+mod looks;
 mod network;
 mod profiles;
 mod program;

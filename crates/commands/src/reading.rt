@@ -4,11 +4,12 @@ ghost use Rattle.command_words.specs.Words.{IsInLimits, shown};
 ghost use Rattle.command_plans.specs.Ends.{reads, stream};
 ghost use Rattle.command_plans.specs.Parts.{Stopped};
 ghost use Rattle.commands.specs.Plan.{cut_on_plan, cut_plan, network_plan, plan_of};
-ghost use Rattle.commands.specs.Parts.{HasRead, HasReadOn, JobRead, Prepares};
+ghost use Rattle.commands.specs.Parts.{HasGot, HasRead, IsCutOn, JobRead, Prepares};
 ghost use Rattle.world_core.specs.Kept.{epoch};
 
 use crate::checkpoints::read_saved;
 use crate::job::Job;
+use crate::looks::{read_look, read_look_on, read_saved_on};
 use crate::network::lone_node;
 use crate::spans::read_span;
 use crate::sweeps::read_sweep;
@@ -81,10 +82,10 @@ fn read_cut<'w, S: Store, E: Sink>(
     Err(tell(err, Trouble::Refused(Complaint::BadState(file, past_end))))
 }
 
-// The network of the scenario in a file, and its state in the file `name`, from which a run is cut after so many epochs.
-// Where that is not to be had, or these epochs do not end below the limit, `err` has the line that says why, and the
-// answer is the status of the call.
-fn read_cut_on<'w, S: Store, E: Sink>(
+/// The network of the scenario in a file, and its state in the file `name`, from which a run is cut after so many epochs.
+/// Where that is not to be had, or these epochs do not end below the limit, `err` has the line that says why, and the
+/// answer is the status of the call.
+pub fn read_cut_on<'w, S: Store, E: Sink>(
     alloc: Global,
     file: &'w str,
     epochs: u64,
@@ -94,9 +95,10 @@ fn read_cut_on<'w, S: Store, E: Sink>(
 ) -> Result<(Scenario, Saved), Status>
     requires few { epochs ≤ 9999999 }
     ensures held { S.held store.new ≡ S.held store.old }
-    ensures ok { IfOk result (λ at. HasReadOn (S.held store.old) (cut_on_plan file.entry.now epochs name.entry.now) epochs
+    ensures ok { IfOk result (λ at. HasGot (S.held store.old) (cut_on_plan file.entry.now epochs name.entry.now)
         (reads (S.faults store.old) (S.failed store.old)) (reads (S.faults store.new) (S.failed store.new))
-        (stream (E.taken err.old) (E.faults err.old)) (stream (E.taken err.new) (E.faults err.new)) at.0 at.1) }
+        (stream (E.taken err.old) (E.faults err.old)) (stream (E.taken err.new) (E.faults err.new)) (at.0, at.1.state)) }
+    ensures cut { IfOk result (λ at. IsCutOn at.0 at.1 epochs) }
     ensures err { IfErr result (Stopped (S.held store.old) (cut_on_plan file.entry.now epochs name.entry.now)
         (reads (S.faults store.old) (S.failed store.old)) (reads (S.faults store.new) (S.failed store.new))
         (stream (E.taken err.old) (E.faults err.old)) (stream (E.taken err.new) (E.faults err.new))) }
@@ -159,7 +161,7 @@ fn read_job<'w, S: Store, E: Sink>(
         }
         Command::Save { file, epochs } => {
             let network = read_cut(alloc, file, epochs, store, err)?;
-            Ok(Job::Save(network, epochs))
+            Ok(Job::Save(network, epochs * EPOCH))
         }
         Command::Resume { file, state } => {
             let network = read_network(alloc, file, store, err)?;
@@ -181,8 +183,16 @@ fn read_job<'w, S: Store, E: Sink>(
             epochs,
             state,
         } => {
-            let (network, saved) = read_cut_on(alloc, file, epochs, state, store, err)?;
-            Ok(Job::SaveOn(network, saved, epochs))
+            let (network, saved) = read_saved_on(alloc, file, epochs, state, store, err)?;
+            Ok(Job::SaveOn(network, saved))
+        }
+        Command::Look { file, cycle } => {
+            let network = read_look(alloc, file, cycle, store, err)?;
+            Ok(Job::Save(network, cycle))
+        }
+        Command::LookOn { file, cycle, state } => {
+            let (network, saved) = read_look_on(alloc, file, cycle, state, store, err)?;
+            Ok(Job::SaveOn(network, saved))
         }
         Command::MonitorSpan { file, from, to } => {
             let network = read_span(alloc, file, from, to, store, err)?;

@@ -1,20 +1,16 @@
 -- One node that runs by itself, cycle after cycle, where what it hears in each cycle is given.
-use Rattle.std.proofs.Common.{◌≡◌, ◌⊎◌, inl, inr, ℕ, zero, suc, ◌+◌, Bool, true, false, List, ◌++◌, refl}
+use Rattle.std.proofs.Common.{◌≡◌, ◌⊎◌, inl, inr, ℕ, ◌+◌, Bool, true, false, List, ◌++◌, refl}
 use Rattle.air_base.specs.declared.air.Heard.{Heard}
 use Rattle.air_base.specs.declared.air.Send.{Send}
 use Rattle.air_base.specs.Each.{each_below}
-use Rattle.air_base.specs.NodeKind.{NodeKind, ticked, ticked_rows}
+use Rattle.air_base.specs.NodeKind.{NodeKind, ticked_rows}
 use Rattle.air_base.specs.NodeRun.{Timed}
 use Rattle.world_core.specs.Order.{send_of}
+use Rattle.fleet_flight.specs.Alone.{alone}
 
 pub bool_cases : (b : Bool) → (b ≡ true) ⊎ (b ≡ false)
 bool_cases true = inl refl
 bool_cases false = inr refl
-
--- the state after n cycles from cycle t on, where h says what is heard in a cycle
-unfoldable pub alone : {S R : Type 0} → NodeKind S R → (ℕ → Heard) → ℕ → ℕ → S → S
-alone m h t zero s = s
-alone m h t (suc n) s = ticked m (t + n) (alone m h t n s) (h (t + n))
 
 -- the rows of these cycles, and what node k sends in them
 abbrev pub alone_rows : {S R : Type 0} → NodeKind S R → (ℕ → Heard) → ℕ → ℕ → S → List R

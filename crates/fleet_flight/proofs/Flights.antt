@@ -19,9 +19,10 @@ use Rattle.world_core.specs.Sends.{sends_of}
 use Rattle.world_core.specs.Topology.{Topology, reach}
 use Rattle.world_core.proofs.Alone.{rows_join}
 use Rattle.world_core.proofs.Final.{filter_swap, through}
-use Rattle.fleet_flight.specs.Paused.{AtRest, IsPaused, node_in}
+use Rattle.fleet_flight.specs.Paused.{IsHeld, AtRest, IsPaused, node_in}
 use Rattle.fleet_flight.specs.Turns.{is_live}
-use Rattle.fleet_flight.proofs.Alone.{GoesAlone, alone, alone_rows, alone_sends, bool_cases}
+use Rattle.fleet_flight.specs.Alone.{alone}
+use Rattle.fleet_flight.proofs.Alone.{GoesAlone, alone_rows, alone_sends, bool_cases}
 use Rattle.fleet_flight.proofs.Ordered.{along, of_one, rows_along, sends_along, sends_from, sent_all, sent_in}
 use Rattle.fleet_flight.proofs.Trails.{stopped_alone, stopped_rows, stopped_sends}
 
@@ -89,12 +90,13 @@ module _ {S R : Type 0} (f : Fleet S R) (since end : ℕ) where
     pub known : Known floor xs k come
     pub stands : Between come k v ⊎ AtSample come k v
 
-  -- so do all nodes
-  pub record InFlight (vs : List (Timed S R)) (xs : List Send) : Type 0 where
+  -- so do all nodes. Of the record nothing is gone that is not over at the cycle `hold`
+  pub record InFlight (hold : ℕ) (vs : List (Timed S R)) (xs : List Send) : Type 0 where
     pub begun : f.start ≤ since
     pub later : since ≤ end
     pub count : length vs ≡ f.topo.nodes
     pub floor : ℕ
+    pub held : floor ≤ hold
     pub nodes : (k : ℕ) (d : Timed S R) → k < f.topo.nodes → Flies floor xs k (node_in vs k d)
     pub past : (k : ℕ) → f.topo.nodes ≤ k → Known floor xs k end
     pub inside : All (λ x. (x.node < f.topo.nodes) × (x.cycle < end)) xs
@@ -222,8 +224,8 @@ module _ {S R : Type 0} (f : Fleet S R) (since end : ℕ) where
     settled floor xs k c v l start later known at = settled_case floor xs k c v l start later known at (bool_cases (f.kind.is_stopped v.state))
 
     -- ---- from a pause
-    pub take_off : (vs : List (Timed S R)) (xs : List Send) → IsPaused f since since vs xs → since ≤ end → InFlight vs xs
-    take_off vs xs paused more =
+    pub take_off : (hold : ℕ) (vs : List (Timed S R)) (xs : List Send) → IsPaused f since since vs xs → since ≤ end → since ≤ hold → InFlight hold vs xs
+    take_off hold vs xs paused more held =
         let K : List Send → List Send = filter (is_kept f.topo since) in
         let low : (k c : ℕ) → since ≤ c → All (λ x. x.node ≡ k → x.cycle < c) xs =
         λ k c le. All-weaker (λ (x : Send). (x.node < f.topo.nodes) × (x.cycle < since)) (λ (x : Send). x.node ≡ k → x.cycle < c) (λ x h same. let a = h.1 in omega arith) xs paused.inside in
@@ -232,6 +234,7 @@ module _ {S R : Type 0} (f : Fleet S R) (since end : ℕ) where
           later = more;
           count = paused.count;
           floor = since;
+          held = held;
           nodes = (λ k d l.
               settled since xs k since (node_in vs k d) l paused.begun (omega arith)
               (record { from = omega arith; within = more; kept = paused.kept k; below = low k since (omega arith) }) (paused.nodes k d l));
@@ -243,7 +246,7 @@ module _ {S R : Type 0} (f : Fleet S R) (since end : ℕ) where
         }
 
   -- ---- into a pause
-  module _ (vs : List (Timed S R)) (xs : List Send) (fl : InFlight vs xs) (still : All (λ v. is_live f.kind end v ≡ false) vs) where
+  module _ (hold : ℕ) (vs : List (Timed S R)) (xs : List Send) (fl : InFlight hold vs xs) (still : All (λ v. is_live f.kind end v ≡ false) vs) where
     at_end : (k : ℕ) (d : Timed S R) → k < f.topo.nodes → (c : ℕ) → c ≤ end → Between c k (node_in vs k d) ⊎ AtSample c k (node_in vs k d) → (c ≡ end) × AtRest f since end k (node_in vs k d)
     at_end k d l c lim stands =
         let v = node_in vs k d in
@@ -267,10 +270,14 @@ module _ {S R : Type 0} (f : Fleet S R) (since end : ℕ) where
         let l : k < f.topo.nodes = omega arith in
         subst (λ (c : ℕ). Known fl.floor xs k c) (ends k d l).0 (fl.nodes k d l).known
 
-    kept_end : (d : Timed S R) (k : ℕ) → sends_of k (filter (is_kept f.topo end) xs) ≡ sends_of k (filter (is_kept f.topo end) (world_at f end).sends)
-    kept_end d k =
+    kept_from : (floor : ℕ) (d : Timed S R) → fl.floor ≤ floor → (k : ℕ) → sends_of k (filter (is_kept f.topo floor) xs) ≡ sends_of k (filter (is_kept f.topo floor) (world_at f end).sends)
+    kept_from floor d up k =
         let known = known_end d k (dec_le f.topo.nodes k) in
-        kept_twice f.topo fl.floor end known.from k xs ∙ ap (filter (is_kept f.topo end)) known.kept ∙ sym (kept_twice f.topo fl.floor end known.from k (world_at f end).sends)
+        kept_twice f.topo fl.floor floor up k xs ∙ ap (filter (is_kept f.topo floor)) known.kept ∙ sym (kept_twice f.topo fl.floor floor up k (world_at f end).sends)
+
+    -- the record has all that is not over at the cycle `hold`
+    pub whole : Timed S R → IsHeld f hold end xs
+    whole d = kept_from hold d fl.held
 
     pub land : Timed S R → IsPaused f since end vs xs
     land d = record {
@@ -278,7 +285,7 @@ module _ {S R : Type 0} (f : Fleet S R) (since end : ℕ) where
       later = fl.later;
       count = fl.count;
       nodes = (λ k e l. (ends k e l).1);
-      kept = kept_end d;
+      kept = kept_from end d ((fl.past f.topo.nodes (omega arith)).from);
       inside = fl.inside;
       rises = fl.rises;
     }

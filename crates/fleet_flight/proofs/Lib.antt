@@ -19,3 +19,8 @@ pub mod EachNode
 pub mod Records
 -- The rows of a run, from one epoch to the next.
 pub mod Epoch
+-- One node that runs by itself, cycle by cycle, and what is seen of it.
+pub mod Following
+-- Shadows of a run's nodes: they hear what the nodes heard, so they go the same way, and what is seen of them is what
+-- is seen of the nodes.
+pub mod Watching

@@ -12,7 +12,8 @@ use Rattle.air_base.specs.NodeKind.{ticked, ticked_rows}
 use Rattle.world_core.specs.Order.{Fleet, Moment, hears, node_at, rows_in, send_of, world_at}
 use Rattle.air_base.proofs.Each.{All_each, each_same}
 use Rattle.world_core.proofs.Sends.{next}
-use Rattle.fleet_flight.proofs.Alone.{alone, alone_rows, alone_sends}
+use Rattle.fleet_flight.specs.Alone.{alone}
+use Rattle.fleet_flight.proofs.Alone.{alone_rows, alone_sends}
 
 -- a send of node k in cycle t
 pub of_one : (P : Send → Type 0) (t k : ℕ) (o : Option ℕ) → ((b : ℕ) → P (record { node = k; cycle = t; byte = b })) → All P (send_of t k o)

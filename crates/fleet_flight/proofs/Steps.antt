@@ -88,7 +88,7 @@ module _ {S R : Type 0} (f : Fleet S R) (steady : IsSteady f.kind) (since end : 
     unfolding heard
     all_ears near = heard_same (age_of f.topo k s) (audible xs) (audible (world_at f s).sends) (λ m. one_ear m (near m))
 
-  module _ (vs : List (Timed S R)) (xs : List Send) (fl : InFlight f since end vs xs) where
+  module _ (hold : ℕ) (vs : List (Timed S R)) (xs : List Send) (fl : InFlight f since end hold vs xs) where
     -- how far a node has come
     reached_case : (j low : ℕ) (v : Timed S R) (a : Flies f since end fl.floor xs j v) → Between f since end a.come j v ⊎ AtSample f since end a.come j v → (is_live f.kind end v ≡ true → low ≤ v.cycle) → low ≤ end → low ≤ a.come
     reached_case j low v a (inr t) lowest lim =
@@ -282,20 +282,21 @@ module _ {S R : Type 0} (f : Fleet S R) (steady : IsSteady f.kind) (since end : 
           subst (Flies f since end fl.floor ys j) (sym (at_other vs k j w d ne)) (record { come = a.come; later = a.later; known = others j ne a.come a.known; stands = a.stands })
 
       with_node : (w : Timed S R) (ys : List Send) → Flies f since end fl.floor ys k w → ((j : ℕ) → j ≢ k → (c : ℕ) → Known f since end fl.floor xs j c → Known f since end fl.floor ys j c)
-          → All (λ x. (x.node < f.topo.nodes) × (x.cycle < end)) ys → Rises ys → InFlight f since end (set vs k w) ys
+          → All (λ x. (x.node < f.topo.nodes) × (x.cycle < end)) ys → Rises ys → InFlight f since end hold (set vs k w) ys
       with_node w ys own_flies others within up = record {
         begun = fl.begun;
         later = fl.later;
         count = length-set vs k w ∙ fl.count;
         floor = fl.floor;
+        held = fl.held;
         nodes = (λ j d q. in_case w ys own_flies others j d (ℕ_discrete j k) q);
         past = (λ j q. others j (λ e. absurd (omega arith)) end (fl.past j q));
         inside = within;
         rises = up;
       }
 
-      quiet_step : (w : Timed S R) (ys : List Send) → ys ≡ xs → Flies f since end fl.floor xs k w → InFlight f since end (set vs k w) ys
-      quiet_step w ys e flies = subst (InFlight f since end (set vs k w)) (sym e) (with_node w xs flies (λ j ne c known. known) fl.inside fl.rises)
+      quiet_step : (w : Timed S R) (ys : List Send) → ys ≡ xs → Flies f since end fl.floor xs k w → InFlight f since end hold (set vs k w) ys
+      quiet_step w ys e flies = subst (InFlight f since end hold (set vs k w)) (sym e) (with_node w xs flies (λ j ne c known. known) fl.inside fl.rises)
 
       other_known : (c b : ℕ) (j : ℕ) → j ≢ k → (e : ℕ) → Known f since end fl.floor xs j e → Known f since end fl.floor (xs ++ record { node = k; cycle = c; byte = b } ∷ []) j e
       other_known c b j ne e known =
@@ -310,7 +311,7 @@ module _ {S R : Type 0} (f : Fleet S R) (steady : IsSteady f.kind) (since end : 
             below = All-push (λ (y : Send). y.node ≡ j → y.cycle < e) xs x known.below (λ same. absurd (ne (sym same)));
           }
 
-      pub post_step : (c b : ℕ) (w : Timed S R) → v.asking ≡ false → c < end → Sends f.kind v c b w → InFlight f since end (set vs k w) (xs ++ record { node = k; cycle = c; byte = b } ∷ [])
+      pub post_step : (c b : ℕ) (w : Timed S R) → v.asking ≡ false → c < end → Sends f.kind v c b w → InFlight f since end hold (set vs k w) (xs ++ record { node = k; cycle = c; byte = b } ∷ [])
       post_step c b w calm early r =
           let x : Send = record { node = k; cycle = c; byte = b } in
           let Q : Send → Send → Type 0 = λ y z. y.node ≡ z.node → y.cycle < z.cycle in
@@ -327,8 +328,8 @@ module _ {S R : Type 0} (f : Fleet S R) (steady : IsSteady f.kind) (since end : 
       }
 
     -- ---- the record is cut
-    cut_high : (high low : ℕ) → fl.floor ≤ high → low ≤ high → ((j : ℕ) (d : Timed S R) (l : j < f.topo.nodes) → high ≤ (fl.nodes j d l).come) → high ≤ end → InFlight f since end vs (filter (is_kept f.topo low) xs)
-    cut_high high low up over reach lim =
+    cut_high : (high low : ℕ) → high ≤ hold → fl.floor ≤ high → low ≤ high → ((j : ℕ) (d : Timed S R) (l : j < f.topo.nodes) → high ≤ (fl.nodes j d l).come) → high ≤ end → InFlight f since end hold vs (filter (is_kept f.topo low) xs)
+    cut_high high low held up over reach lim =
         let p : Send → Bool = is_kept f.topo low in
         let ys : List Send = filter p xs in
         let same : (m : ℕ) → sends_of m (filter (is_kept f.topo high) ys) ≡ sends_of m (filter (is_kept f.topo high) xs) = λ m. ap (sends_of m) (through (is_kept f.topo high) p (over_later f.topo low high over) xs) in
@@ -337,6 +338,7 @@ module _ {S R : Type 0} (f : Fleet S R) (steady : IsSteady f.kind) (since end : 
           later = fl.later;
           count = fl.count;
           floor = high;
+          held = held;
           nodes = (λ j d l.
               let a = fl.nodes j d l in
               record {
@@ -350,26 +352,26 @@ module _ {S R : Type 0} (f : Fleet S R) (steady : IsSteady f.kind) (since end : 
           rises = AllPairs-filter (λ (y : Send) (z : Send). y.node ≡ z.node → y.cycle < z.cycle) p xs fl.rises;
         }
 
-    cut_case : (low : ℕ) → IsLow f.kind end low vs → low ≤ end → Dec (low ≤ fl.floor) → InFlight f since end vs (filter (is_kept f.topo low) xs)
-    cut_case low lowest lim (yes le) = cut_high fl.floor low (omega arith) le (λ j d l. (fl.nodes j d l).known.from) ((fl.past f.topo.nodes (omega arith)).from)
-    cut_case low lowest lim (no more) = cut_high low low (omega arith) (omega arith) (reached low lowest lim) lim
+    cut_case : (low : ℕ) → low ≤ hold → IsLow f.kind end low vs → low ≤ end → Dec (low ≤ fl.floor) → InFlight f since end hold vs (filter (is_kept f.topo low) xs)
+    cut_case low held lowest lim (yes le) = cut_high fl.floor low fl.held (omega arith) le (λ j d l. (fl.nodes j d l).known.from) ((fl.past f.topo.nodes (omega arith)).from)
+    cut_case low held lowest lim (no more) = cut_high low low held (omega arith) (omega arith) (reached low lowest lim) lim
 
-    pub cut : (low : ℕ) → IsLow f.kind end low vs → low ≤ end → InFlight f since end vs (filter (is_kept f.topo low) xs)
-    cut low lowest lim = cut_case low lowest lim (dec_le low fl.floor)
+    pub cut : (low : ℕ) → low ≤ hold → IsLow f.kind end low vs → low ≤ end → InFlight f since end hold vs (filter (is_kept f.topo low) xs)
+    cut low held lowest lim = cut_case low held lowest lim (dec_le low fl.floor)
 
   -- ---- a step of the node whose turn it is
-  module _ (vs : List (Timed S R)) (xs : List Send) (fl : InFlight f since end vs xs) (k : ℕ) (v : Timed S R) (low ahead : ℕ) (l : k < f.topo.nodes) (own : v ≡ node_in vs k v) (live : is_live f.kind end v ≡ true) (lowest : IsLow f.kind end low vs)
-      (some : 1 ≤ ahead) (each : All (λ l. ahead ≤ latency_of f.topo l.from l.to) f.topo.links) (near : v.cycle < low + ahead) (w : Timed S R) (ys : List Send) where
-    grows_on : (c b : ℕ) → v.asking ≡ false → c < end → Sends f.kind v c b w → Grows f.topo low xs (record { node = k; cycle = c; byte = b }) ys → InFlight f since end (set vs k w) ys
-    grows_on c b calm early r (inl e) = subst (InFlight f since end (set vs k w)) (sym e) (post_step vs xs fl k v low l own live lowest c b w calm early r)
+  module _ (hold : ℕ) (vs : List (Timed S R)) (xs : List Send) (fl : InFlight f since end hold vs xs) (k : ℕ) (v : Timed S R) (low ahead : ℕ) (l : k < f.topo.nodes) (own : v ≡ node_in vs k v) (live : is_live f.kind end v ≡ true) (lowest : IsLow f.kind end low vs)
+      (some : 1 ≤ ahead) (each : All (λ l. ahead ≤ latency_of f.topo l.from l.to) f.topo.links) (near : v.cycle < low + ahead) (drop : ℕ) (before : drop ≤ low) (held : drop ≤ hold) (w : Timed S R) (ys : List Send) where
+    grows_on : (c b : ℕ) → v.asking ≡ false → c < end → Sends f.kind v c b w → Grows f.topo drop xs (record { node = k; cycle = c; byte = b }) ys → InFlight f since end hold (set vs k w) ys
+    grows_on c b calm early r (inl e) = subst (InFlight f since end hold (set vs k w)) (sym e) (post_step hold vs xs fl k v low l own live lowest c b w calm early r)
     grows_on c b calm early r (inr e) =
-        let less = cut vs xs fl low lowest (low_end vs xs fl k v low l own live lowest) in
-        subst (InFlight f since end (set vs k w)) (sym e) (post_step vs (filter (is_kept f.topo low) xs) less k v low l own live lowest c b w calm early r)
+        let less = cut hold vs xs fl drop held (λ j d q on. let le = lowest j d q on in omega arith) (let lim = low_end hold vs xs fl k v low l own live lowest in omega arith) in
+        subst (InFlight f since end hold (set vs k w)) (sym e) (post_step hold vs (filter (is_kept f.topo drop) xs) less k v low l own live lowest c b w calm early r)
 
-    pub flight_on : Takes f.kind f.topo k low end v xs w ys → InFlight f since end (set vs k w) ys
-    flight_on (inl a) = quiet_step vs xs fl k v low l own live lowest w ys a.sends (answers_on vs xs fl k v low l own live lowest w a.asking (hears_right vs xs fl k v low l own live lowest ahead some each near) a.node)
-    flight_on (inr (inl a)) = quiet_step vs xs fl k v low l own live lowest w ys a.sends (passes_on vs xs fl k v low l own live lowest w a.calm a.rests)
-    flight_on (inr (inr (inl a))) = quiet_step vs xs fl k v low l own live lowest w ys a.sends (samples_on vs xs fl k v low l own live lowest a.cycle w a.calm a.early a.asks)
+    pub flight_on : Takes f.kind f.topo k drop end v xs w ys → InFlight f since end hold (set vs k w) ys
+    flight_on (inl a) = quiet_step hold vs xs fl k v low l own live lowest w ys a.sends (answers_on hold vs xs fl k v low l own live lowest w a.asking (hears_right hold vs xs fl k v low l own live lowest ahead some each near) a.node)
+    flight_on (inr (inl a)) = quiet_step hold vs xs fl k v low l own live lowest w ys a.sends (passes_on hold vs xs fl k v low l own live lowest w a.calm a.rests)
+    flight_on (inr (inr (inl a))) = quiet_step hold vs xs fl k v low l own live lowest w ys a.sends (samples_on hold vs xs fl k v low l own live lowest a.cycle w a.calm a.early a.asks)
     flight_on (inr (inr (inr a))) = grows_on a.cycle a.byte a.calm a.early a.sends a.grows
 
 -- ---- it moves on

@@ -8,7 +8,8 @@ use Rattle.air_base.specs.NodeRun.{Timed, AllQuiet, Asks, Comes, Rests, Sends, a
 use Rattle.world_core.specs.Order.{send_of}
 use Rattle.world_core.proofs.Alone.{cond_true, cond_false}
 use Rattle.air_base.proofs.Each.{each_none, each_same}
-use Rattle.fleet_flight.proofs.Alone.{GoesAlone, alone, alone_rows, alone_sends}
+use Rattle.fleet_flight.specs.Alone.{alone}
+use Rattle.fleet_flight.proofs.Alone.{GoesAlone, alone_rows, alone_sends}
 
 pub each_add : {X : Type 0} (n j : ℕ) (g : ℕ → List X) → each_below (n + j) g ≡ each_below n g ++ each_below j (λ i. g (n + i))
 each_add n zero g = ap (λ (l : ℕ). each_below l g) (add-zero n) ∙ sym (append-nil (each_below n g))

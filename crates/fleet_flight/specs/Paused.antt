@@ -30,13 +30,17 @@ pub record AtRest {S R : Type 0} (f : Fleet S R) (since c k : ℕ) (v : Timed S 
   pub state : v.state ≡ node_at f k c
   pub rows : v.rows ≡ rows_between f k since c
 
+-- of each node's sends below the cycle c that are not over at the cycle `hold` the record has all, in order
+abbrev pub IsHeld : {S R : Type 0} → Fleet S R → ℕ → ℕ → List Send → Type 0
+IsHeld f hold c xs = (k : ℕ) → sends_of k (filter (is_kept f.topo hold) xs) ≡ sends_of k (filter (is_kept f.topo hold) (world_at f c).sends)
+
 -- so have all nodes; of each node's sends the record has in order those that are kept
 pub record IsPaused {S R : Type 0} (f : Fleet S R) (since c : ℕ) (vs : List (Timed S R)) (xs : List Send) : Type 0 where
   pub begun : f.start ≤ since
   pub later : since ≤ c
   pub count : length vs ≡ f.topo.nodes
   pub nodes : (k : ℕ) (d : Timed S R) → k < f.topo.nodes → AtRest f since c k (node_in vs k d)
-  pub kept : (k : ℕ) → sends_of k (filter (is_kept f.topo c) xs) ≡ sends_of k (filter (is_kept f.topo c) (world_at f c).sends)
+  pub kept : IsHeld f c c xs
   pub inside : All (λ x. (x.node < f.topo.nodes) × (x.cycle < c)) xs
   pub rises : Rises xs
 

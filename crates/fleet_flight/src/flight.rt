@@ -5,7 +5,7 @@ ghost use Rattle.std.specs.List.{All};
 ghost use Rattle.world_core.specs.Topology.{IsInside};
 ghost use Rattle.node_core.specs.Cycle.{node_kind};
 ghost use Rattle.fleet_flight.specs.Origin.{flown};
-ghost use Rattle.fleet_flight.specs.Paused.{CanPost, IsPaused};
+ghost use Rattle.fleet_flight.specs.Paused.{CanPost, IsHeld, IsPaused};
 ghost use Rattle.fleet_flight.specs.Turns.{Takes, is_live};
 
 use crate::Begins;
@@ -59,7 +59,8 @@ fn advance(
 }
 
 /// All nodes from the cycle `floor` to the cycle `end`. The node that is furthest behind takes a step, and goes on while
-/// no byte that another has still to send could reach it.
+/// no byte that another has still to send could reach it. Of the record nothing is dropped that is not over at the cycle
+/// `hold`.
 pub fn run_to<B: Begins>(
     alloc: Global,
     from: &B,
@@ -67,11 +68,14 @@ pub fn run_to<B: Begins>(
     log: &mut SendLog,
     floor: u64,
     end: u64,
+    hold: u64,
 ) -> Result<(), NoMemory>
     requires paused { IsPaused (flown (B.origin from.now)) floor floor nodes.old.items log.old.sends }
     requires more { floor ≤ end }
     requires end { end ≤ (B.origin from.now).topo.limit }
-    ensures { OnOk result (IsPaused (flown (B.origin from.now)) floor end nodes.new.items log.new.sends) }
+    requires hold { floor ≤ hold }
+    ensures paused { OnOk result (IsPaused (flown (B.origin from.now)) floor end nodes.new.items log.new.sends) }
+    ensures held { OnOk result (IsHeld (flown (B.origin from.now)) hold end log.new.sends) }
 {
     let topo = from.topo();
     let ahead = lookahead(topo);
@@ -84,7 +88,7 @@ pub fn run_to<B: Begins>(
             number,
             topo,
             log,
-            now.low,
+            now.low.min(hold),
             end,
         )?;
         turn = next_turn(nodes, end, ahead, now);

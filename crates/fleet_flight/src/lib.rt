@@ -7,11 +7,16 @@ mod begins;
 mod flight;
 mod latency;
 mod order;
+mod places;
 mod record;
 mod rows;
+mod shadow;
 mod turns;
+mod watch;
 
 pub use begins::Begins;
 pub use order::{put_behind, sort};
 pub use record::{kept_sends, record_of};
 pub use rows::{pass_to, rows_to};
+pub use shadow::Shadow;
+pub use watch::watch_to;

@@ -31,8 +31,8 @@ fn gather(alloc: Global, nodes: &mut Vec<Node>) -> Result<Vec<Row>, AllocError>
     Ok(rows)
 }
 
-// The rows of all nodes are taken from them, and dropped.
-fn drop_rows(nodes: &mut Vec<Node>)
+/// The rows of all nodes are taken from them, and dropped.
+pub fn drop_rows(nodes: &mut Vec<Node>)
     requires { All (λ v. v.asking ≡ false) nodes.old.items }
     ensures { AreTaken nodes.old.items nodes.new.items }
 {
@@ -71,7 +71,7 @@ pub fn rows_to<B: Begins>(
     ensures rows { IfOk result (λ v. rows_upto (flown (B.origin from.now)) end ≡ rows_upto (flown (B.origin from.now)) floor ++ v.items) }
     ensures paused { OnOk result (IsPaused (flown (B.origin from.now)) end end nodes.new.items log.new.sends) }
 {
-    run_to(alloc, from, nodes, log, floor, end)?;
+    run_to(alloc, from, nodes, log, floor, end, end)?;
     let limit = from.topo().limit();
     let last = ends(alloc, nodes, limit, end == limit)?;
     let mut rows = gather(alloc, nodes)?;
@@ -95,7 +95,7 @@ pub fn pass_to<B: Begins>(
     requires end { end ≤ (B.origin from.now).topo.limit }
     ensures { OnOk result (IsPaused (flown (B.origin from.now)) end end nodes.new.items log.new.sends) }
 {
-    run_to(alloc, from, nodes, log, floor, end)?;
+    run_to(alloc, from, nodes, log, floor, end, end)?;
     drop_rows(nodes);
     Ok(())
 }

@@ -155,26 +155,28 @@ impl PlainRun {
         Ok(rows)
     }
 
-    /// Passes over the next epoch, as `epoch` goes through it, but gives no rows. The scenario is the one of `new`. After
-    /// `NoMemory` the run can only be dropped.
-    pub fn pass(&mut self, scenario: &Scenario) -> Result<(), NoMemory>
+    /// Passes over the next cycles below `end`, at most as many as an epoch has, but gives no rows. All nodes come to rest
+    /// there. The scenario is the one of `new`. After `NoMemory` the run can only be dropped.
+    pub fn pass(&mut self, scenario: &Scenario, end: u64) -> Result<(), NoMemory>
         requires same { scenario.now ≡ self.old.scenario }
+        requires more { self.old.floor ≤ end }
+        requires within { end ≤ self.old.scenario.topo.limit }
         requires sound { self.old.failed ≡ false }
-        ensures after { OnOk result (self.new ≡ record self.old { floor = min (self.old.floor + epoch) self.old.scenario.topo.limit }) }
+        ensures after { OnOk result (self.new ≡ record self.old { floor = min (self.old.floor + epoch) end }) }
         ensures scenario { self.new.scenario ≡ self.old.scenario }
     {
         self.failed = true;
         let from = AtReset { scenario };
-        let end = (self.floor + EPOCH).min(self.limit);
+        let next = (self.floor + EPOCH).min(end);
         pass_to(
             self.alloc,
             &from,
             &mut self.nodes,
             &mut self.log,
             self.floor,
-            end,
+            next,
         )?;
-        self.floor = end;
+        self.floor = next;
         self.failed = false;
         Ok(())
     }

@@ -3,3 +3,4 @@ pub mod Member
 pub mod Nodes
 pub mod Ending
 pub mod Run
+pub mod Turns

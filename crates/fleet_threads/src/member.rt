@@ -1,5 +1,5 @@
 // One node of the fleet, in an epoch.
-ghost use Rattle.std.specs.Prelude.{◌≡◌, ◌≤◌};
+ghost use Rattle.std.specs.Prelude.{◌≡◌, ◌≤◌, IfErr};
 ghost use Rattle.std.specs.List.{Contains};
 ghost use Rattle.fleet_threads.specs.declared.member.Sampling.TheVariants.{Tries};
 ghost use Rattle.fleet_threads.specs.Answers.{IsAnswered, LooksOnce};
@@ -59,6 +59,7 @@ fn ask<N: Session, R: Wait>(
     requires floor { N.floor ≤ cycle }
     ensures answer { IsAnswered N.world air.old cycle result air.new }
     ensures once { sampling ≡ Tries → LooksOnce air.old air.new }
+    ensures behind { IfErr result (λ _. sampling ≡ Tries) }
 {
     match sampling {
         Sampling::Tries => air.try_sample(rt, shared, cycle),
@@ -73,6 +74,8 @@ impl Member {
     ghost use Rattle.fleet_threads.specs.declared.member.Sampling.TheVariants.{Tries};
     ghost use Rattle.fleet_threads.specs.Answers.{LooksOnce};
     ghost use Rattle.fleet_threads.specs.Member.{IsUnderWay, GoesOn, IsOver};
+    ghost use Rattle.fleet_threads.specs.Turns.{HasGotOn, HasSampled, HasTurned};
+    ghost use Rattle.neighbour_sync.specs.Seats.{node_stopped};
 
     /// The number of its node.
     pub fn number(&self) -> u8
@@ -93,6 +96,7 @@ impl Member {
         requires { IsUnderWay N.table N.world epoch.now.scenario.now N.floor epoch.now.end self.old }
         ensures on { IsUnderWay N.table N.world epoch.now.scenario.now N.floor epoch.now.end self.new × (self.new.runner ≡ self.old.runner) }
         ensures looks { self.new.air.halts ≡ self.old.air.halts }
+        ensures exact { self.new ≡ record self.old { air = node_stopped self.old.air; halted = true } }
     {
         // Only the contract names it.
         let _ = epoch;
@@ -131,13 +135,14 @@ impl Member {
         requires none { sends_below N.world.sends self.old.air.number (sent + self.old.gap) ≤ sends_passed self.old.runner }
         ensures on { GoesOn N.table N.world epoch.now.scenario.now N.floor epoch.now.end self.old self.new }
         ensures looks { self.new.air.halts ≡ self.old.air.halts }
+        ensures runner { self.new.runner ≡ self.old.runner }
     {
         let free = sent.saturating_add(self.gap).min(epoch.end);
         let clock = free.max(self.air.clock());
         self.air.raise(shared, clock);
     }
 
-    // Finishes the cycle in which the node samples, if it may be told what it hears.
+    // Finishes the cycle in which the node samples, if it may be told what it hears; or it halts.
     fn sample<N: Session, R: Wait, G>(
         &mut self,
         shared: &Shared<Scenario, N>,
@@ -148,6 +153,7 @@ impl Member {
         requires asking { self.old.runner.asking ≡ true }
         ensures on { GoesOn N.table N.world epoch.now.scenario.now N.floor epoch.now.end self.old self.new }
         ensures once { sampling ≡ Tries → LooksOnce self.old.air self.new.air }
+        ensures sampled { self.new.halted ≡ false → HasSampled sampling self.old.runner self.new.runner }
     {
         let cycle = self.runner.cycle();
         match ask(epoch.rt, shared, sampling, &mut self.air, cycle) {
@@ -157,7 +163,7 @@ impl Member {
         }
     }
 
-    // One turn: the node runs up to its next event. What it sends is posted at once.
+    // One turn: the node runs up to its next event. What it sends is posted at once. Where memory ran out it halts.
     fn run<N: Session, R: Wait, G: Gate>(
         &mut self,
         shared: &Shared<Scenario, N>,
@@ -168,6 +174,7 @@ impl Member {
         requires live { is_live epoch.now.end self.old.runner ≡ true }
         ensures on { GoesOn N.table N.world epoch.now.scenario.now N.floor epoch.now.end self.old self.new }
         ensures looks { self.new.air.halts ≡ self.old.air.halts }
+        ensures turned { self.new.halted ≡ false → HasTurned epoch.now.end self.old.runner self.new.runner }
     {
         epoch
             .gate
@@ -191,6 +198,7 @@ impl Member {
 
     /// One step: the node raises its clock word, and then samples or takes a turn. Where it only tries to sample, it
     /// looks once at most. Whether it is over for this epoch: the node has come to the end or stopped, or it has halted.
+    /// Where it is not over and did not halt, it was answered, or made the cycles up to its next event.
     pub fn step<N: Session, R: Wait, G: Gate>(
         &mut self,
         shared: &Shared<Scenario, N>,
@@ -201,6 +209,7 @@ impl Member {
         ensures on { GoesOn N.table N.world epoch.now.scenario.now N.floor epoch.now.end self.old self.new }
         ensures once { sampling ≡ Tries → LooksOnce self.old.air self.new.air }
         ensures over { result ≡ true → IsOver epoch.now.end self.new }
+        ensures gets_on { result ≡ false → self.new.halted ≡ false → HasGotOn sampling epoch.now.end self.old.runner self.new.runner }
     {
         if self.halted {
             return true;

@@ -21,8 +21,8 @@ pub enum LineFault {
     TooLong,
 }
 
-/// Why a text is no moves of a sweep. The first faulty line decides, and in it the first faulty word; of a stretch its
-/// words come first, then where it begins, then how many bytes it has.
+/// Why a text is no moves of a sweep. The first faulty line decides. In a line the node comes first, then each stretch in
+/// turn: that it has three words, then each of them, then where it begins, then how many bytes the line has.
 #[derive(Clone, Copy, Debug)]
 pub enum MovesFault {
     /// A line is faulty.

@@ -1,7 +1,8 @@
 -- Many cycles of a node that waits or sleeps.
-use Rattle.std.proofs.Common.{◌≡◌, ℕ, zero, suc, ◌+◌, ◌-◌, ◌<◌, ◌≤◌, ◌++◌, add-zero, Bool, true, false, cond, None, [], is_some, refl, sym, ap, ◌∙◌, arith, nat_lt}
+use Rattle.std.proofs.Common.{◌≡◌, ℕ, zero, suc, ◌+◌, ◌-◌, ◌<◌, ◌≤◌, ◌++◌, add-zero, Bool, true, false, cond, ◌⊎◌, inl, inr, not, ◌&&◌, ◌||◌, ◌==◌, None, [], is_some, refl, sym, ap, ◌∙◌, arith, nat_lt}
 use Rattle.std.proofs.Math.Nat.{sub-zero}
-use Rattle.std.proofs.lemmas.Bool.{lt-ltb}
+use Rattle.std.proofs.lemmas.Bool.{false≢true, lt-ltb}
+use Rattle.std.proofs.lemmas.Bool.Decides.{nat_tests}
 use Rattle.board_io.specs.declared.board.Board.{Board}
 use Rattle.board_io.specs.Cycle.{board_quiet, timers_cycle, timers_leap}
 use Rattle.board_io.specs.Lines.{lines_of}
@@ -10,14 +11,11 @@ use Rattle.avr_base.specs.declared.interrupts.Lines.{Lines}
 use Rattle.avr_base.specs.Lines.{due_of}
 use Rattle.air_base.specs.NodeRun.{passed, passed_rows, AllQuiet}
 use Rattle.node_core.specs.State.{NodeState}
-use Rattle.node_core.specs.Cycle.{node_kind, acted, acted_rows, asks_in, begun_in, begun_rows, cpu_cycle, cpu_rows, instructed, instructed_rows, sends_in}
+use Rattle.node_core.specs.Cycle.{node_kind, acted, acted_rows, asks_in, begins, begun_in, begun_rows, cpu_cycle, cpu_rows, instructed, instructed_rows, sends_in}
 use Rattle.node_core.specs.Inside.{IsCalm}
+use Rattle.node_core.specs.Pace.Midway.{OnlyRests, rested}
 use Rattle.node_core.specs.Interrupts.{due}
 use Rattle.node_core.proofs.Cycles.{asks_calm, begun_calm, rows_calm, sends_calm}
-
--- a node after i cycles of a wait or of sleep, from cycle t on
-abbrev pub rested : ℕ → ℕ → NodeState → NodeState
-rested t i s = record s { wait = s.wait - i; board = timers_leap t i s.board }
 
 -- in cycle t the processor does nothing but count off a cycle, if there is one to be counted
 pub record Idles (t : ℕ) (s : NodeState) : Type 0 where
@@ -112,3 +110,35 @@ calm_less t n m s le calm = record { ends = λ i l. calm.ends i (omega arith); n
 pub passed_zero : (t : ℕ) (s : NodeState) → s ≡ passed node_kind t 0 s
 unfolding passed
 passed_zero t s = refl
+
+-- ---- no instruction begins while it rests
+none_begins : (stopped free asleep owed entered : Bool) → (free ≡ false) ⊎ (asleep ≡ true) → (not stopped && (free && (not asleep && (owed || not entered)))) ≡ false
+none_begins true free asleep owed entered h = refl
+none_begins false false asleep owed entered h = refl
+none_begins false true true owed entered h = refl
+none_begins false true false owed entered (inl e) = absurd (false≢true (sym e))
+none_begins false true false owed entered (inr e) = absurd (false≢true e)
+
+not_free : (w : ℕ) → 0 < w → (w == 0) ≡ false
+not_free w h = grind (arith, nat_tests)
+
+waiting_none : (t n : ℕ) (s : NodeState) → n ≤ s.wait → (i : ℕ) → i < n → begins (rested t i s) ≡ false
+waiting_none t n s h i l =
+    let u : NodeState = rested t i s in none_begins (is_some u.stop) (u.wait == 0) u.asleep u.owed (is_some (due u)) (inl (not_free u.wait (omega arith)))
+
+sleeping_none : (t n : ℕ) (s : NodeState) → s.asleep ≡ true → (i : ℕ) → i < n → begins (rested t i s) ≡ false
+sleeping_none t n s h i l =
+    let u : NodeState = rested t i s in none_begins (is_some u.stop) (u.wait == 0) u.asleep u.owed (is_some (due u)) (inr h)
+
+module _ (t : ℕ) (s : NodeState) (going : is_some s.stop ≡ false) (n : ℕ) (calm : IsCalm t n s) where
+  pub only_waits : n ≤ s.wait → OnlyRests t n s
+  only_waits h = record { still = passed_rested t s going n calm (waits t n s h); none = waiting_none t n s h }
+
+  pub only_sleeps : s.asleep ≡ true → ((i : ℕ) → i < n → Idles (t + i) (rested t i s)) → OnlyRests t n s
+  only_sleeps asleep idles = record { still = passed_rested t s going n calm idles; none = sleeping_none t n s asleep }
+
+pub only_none : (t : ℕ) (s : NodeState) → OnlyRests t 0 s
+only_none t s = record {
+  still = λ i l. (let e : i ≡ 0 = omega arith in ap (λ (n : ℕ). passed node_kind t n s) e ∙ (passed_none t s ∙ ap (λ (n : ℕ). rested t n s) (sym e)));
+  none = λ i l. absurd (omega arith);
+}

@@ -55,3 +55,5 @@ pub mod Counting
 pub mod Borrows
 -- The numbers of a node: what their bounds say, the state that they make, and that it is the only one.
 pub mod Saved
+-- The SRAM of a node has as many bytes after a cycle as before.
+pub mod Sized

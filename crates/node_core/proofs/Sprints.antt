@@ -1,11 +1,12 @@
 -- A sprint: what holds of it at the beginning of a cycle, and how a step takes it on or ends it.
-use Rattle.std.proofs.Common.{◌≡◌, ℕ, ◌+◌, ◌-◌, ◌≤◌, ◌<◌, ◌++◌, ◌&&◌, nat_le, nat_lt, Bool, cond, not, true, false, Option, Some, None, List, is_some, refl, sym, subst, ap, ◌∙◌, arith}
+use Rattle.std.proofs.Common.{◌≡◌, ℕ, ◌+◌, ◌-◌, ◌/◌, ◌%◌, ◌≤◌, ◌<◌, ◌++◌, ◌&&◌, nat_le, nat_lt, Bool, cond, not, true, false, Option, Some, None, List, is_some, refl, sym, subst, ap, ◌∙◌, arith}
 use Rattle.std.proofs.lemmas.Bool.{false≢true}
 use Rattle.std.proofs.lemmas.Bool.Decides.{nat_tests}
 use Rattle.std.specs.Bool.{beq}
 use Rattle.std.specs.Prelude.{vec_len, vec_capacity}
 use Rattle.air_base.specs.Bounds.{LAST_CYCLE}
 use Rattle.avr_base.specs.Flags.{I, has_flag}
+use Rattle.avr_base.specs.declared.interrupts.Lines.{Lines}
 use Rattle.avr_base.specs.Lines.{lowest_line, pending_of, vector_of}
 use Rattle.board_io.specs.declared.clocked.ClockedBoard.{ClockedBoard}
 use Rattle.board_io.specs.Cycle.{timers_leap}
@@ -41,13 +42,20 @@ none_up : vector_of (lowest_line 0) ≡ None
 unfolding lowest_line
 none_up = refl
 
--- no interrupt is due while no line is up
-pub clear_due : (m : Machine) → (lines_of m.bus.io.board).bits ≡ 0 → due (shown m) ≡ None
-clear_due m e = by_flag (has_flag m.cpu.sreg.bits I)
+-- the flag I is the highest of a byte
+is_high : (bits : ℕ) → has_flag bits I ≡ true → nat_lt bits 128 ≡ false
+is_high bits on =
+    let half : bits / 128 % 2 ≡ 1 = grind (arith, nat_tests) in
+    let high : 128 ≤ bits = omega (arith, half) in
+    grind (arith, nat_tests)
+
+-- no interrupt is due while no line is up or the flag I is off
+pub clear_due : (m : Machine) → (nat_lt m.cpu.sreg.bits 128 ≡ false → (lines_of m.bus.io.board).bits ≡ 0) → due (shown m) ≡ None
+clear_due m e = by_flag (has_flag m.cpu.sreg.bits I) refl
   where
-    by_flag : (b : Bool) → cond b (pending_of (lines_of m.bus.io.board)) None ≡ None
-    by_flag true = ap (λ (n : ℕ). vector_of (lowest_line n)) e ∙ none_up
-    by_flag false = refl
+    by_flag : (b : Bool) → has_flag m.cpu.sreg.bits I ≡ b → cond b (pending_of (lines_of m.bus.io.board)) None ≡ None
+    by_flag true on = ap (λ (n : ℕ). vector_of (lowest_line n)) (e (is_high m.cpu.sreg.bits on)) ∙ none_up
+    by_flag false on = refl
 
 -- at its beginning
 pub begins : (t : ℕ) (m : Machine) → m.stop ≡ None → m.wait ≡ 0 → m.asleep ≡ false → m.bus.io.clock ≡ t → m.count ≤ LAST_CYCLE + t → IsSprinting t t m m
@@ -278,7 +286,7 @@ module _ (t end : ℕ) (first self : Machine) (regs : Registers) (core : Core) (
   -- its cycles pass
   module _ (silence : (i : ℕ) → t + i < end → script_byte first.script (t + i) ≡ None) (io : ClockedBoard) (within : bus.io.clock + n ≤ end)
       (idle : IsIdle bus.io.clock n bus.io.board) (state : io.board ≡ timers_leap bus.io.clock n bus.io.board)
-      (clear : (lines_of io.board).bits ≡ 0) (clock : io.clock ≡ bus.io.clock + n) where
+      (lines : lines_of io.board ≡ lines_of bus.io.board) (clock : io.clock ≡ bus.io.clock + n) where
     goes_past : IsSprinting t io.clock first (owing b (beside to on (on_io io)))
     goes_past =
         let at : ℕ = self.bus.io.clock in
@@ -295,11 +303,11 @@ module _ (t end : ℕ) (first self : Machine) (regs : Registers) (core : Core) (
         subst (λ (u : ℕ). IsSprinting t u first (owing b (beside to on (on_io io)))) (sym there)
         (goes t at first m h.runs n w turn_free p (with_io bus io) calm (λ i. let u : NodeState = record (shown w) { board = next i } in u) there)
 
-    pub turned : (owed : ℕ) → owed ≤ count + 1 → nat_lt count owed ≡ b → IsTurning t end first (on_io io) to on owed
-    turned owed top is = record {
+    pub turned : (owed : ℕ) → owed ≤ count + 1 → nat_lt count owed ≡ b → (nat_lt on.sreg.bits 128 ≡ false → (lines_of bus.io.board).bits ≡ 0) → IsTurning t end first (on_io io) to on owed
+    turned owed top is down = record {
       within = omega (arith, within, clock);
       off = h.off;
-      clear = clear;
+      clear = λ up. ap (λ (l : Lines). l.bits) lines ∙ down up;
       top = top;
       runs = subst (λ (c : Bool). IsSprinting t io.clock first (owing c (beside to on (on_io io)))) (sym is) goes_past;
     }

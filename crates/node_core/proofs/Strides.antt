@@ -12,10 +12,10 @@ use Rattle.board_io.specs.declared.cycle.OnAir.{OnAir}
 use Rattle.board_io.specs.declared.cycle.OnAir.TheVariants.{Quiet, Sent, Asks}
 use Rattle.node_core.specs.Cycle.{air_after, asks_after, asks_in, begun_in, begun_rows, cpu_cycle, cpu_rows, device_rows, devices_cycle, node_kind, sends_after, sends_in}
 use Rattle.node_core.specs.Inside.{IsCalm, IsPassed}
-use Rattle.node_core.specs.Pace.Midway.{IsMidway}
+use Rattle.node_core.specs.Pace.Midway.{IsMidway, rested}
 use Rattle.node_core.specs.State.{NodeState}
 use Rattle.node_core.proofs.Cycles.{asks_calm, asks_parts, begun_calm, begun_parts, rows_calm, rows_parts, sends_calm, sends_parts}
-use Rattle.node_core.proofs.Idling.{Idles, all_quiet, no_rows, passed_rested, rested, waits}
+use Rattle.node_core.proofs.Idling.{Idles, all_quiet, no_rows, passed_rested, waits}
 use Rattle.node_core.proofs.Runs.{begun_comes, rested_comes}
 
 -- one more, where nothing ends and no byte arrives: the timers alone move

@@ -2,7 +2,7 @@
 -- it does before, whether it looks, and what it does with what it heard. The effects of an instruction fall into its
 -- first cycle; its other cycles count off (AVR Instruction Set Manual, "Cycles"; ATmega128 datasheet, "Interrupt
 -- Response Time", "Sleep Modes").
-use Rattle.std.specs.Prelude.{ℕ, ◌+◌, ◌-◌, ◌%◌, ◌==◌, ◌&&◌, ◌||◌, nat_le, nat_lt, if◌then◌else◌, List, [], ◌∷◌, ◌++◌, Bool, true, false, Option, Some, None, is_some, Result, Ok, Err}
+use Rattle.std.specs.Prelude.{ℕ, ◌+◌, ◌-◌, ◌%◌, ◌==◌, ◌&&◌, ◌||◌, nat_le, nat_lt, if◌then◌else◌, List, [], ◌∷◌, ◌++◌, Bool, true, false, Option, Some, None, is_some, not, Result, Ok, Err}
 use Rattle.avr_base.specs.declared.stop.StopCause.{StopCause}
 use Rattle.avr_base.specs.declared.stop.StopCause.TheVariants as stop
 use Rattle.avr_decoder.specs.declared.op.Op.{Op}
@@ -119,6 +119,15 @@ entered t wait v s = let a = entry v.word s.cpu (bus_at t s) in after_entry wait
 
 unfoldable pub entered_rows : ℕ → Vector → NodeState → List Row
 entered_rows t v s = entry_rows t v s (entry v.word s.cpu (bus_at t s)).result
+
+-- an instruction begins in the cycle that this state begins: the node neither stopped nor waits nor sleeps, and enters no
+-- interrupt. One that stops the node begins too
+abbrev pub begins : NodeState → Bool
+begins s = not (is_some s.stop) && (s.wait == 0 && (not s.asleep && (s.owed || not (is_some (due s)))))
+
+-- its address, where one begins
+abbrev pub begun_at : NodeState → Option ℕ
+begun_at s = if begins s then Some s.cpu.pc else None
 
 -- what a processor does that waits for nothing, by what is due: an interrupt is entered in four cycles, from sleep in
 -- eight; not before the instruction that is owed. Only what is due wakes a node that sleeps

@@ -4,6 +4,7 @@
 #![tactic(auto)]
 
 mod bus;
+mod copying;
 mod interrupts;
 mod law;
 mod machine;

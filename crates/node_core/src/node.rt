@@ -1,11 +1,12 @@
 // A node.
-ghost use Rattle.std.specs.Prelude.{◌≡◌, ◌<◌, ◌≤◌, ◌+◌, ◌-◌, [], true, false, IfOk, slice_index};
+ghost use Rattle.std.specs.Prelude.{◌≡◌, ◌<◌, ◌≤◌, ◌+◌, ◌-◌, [], true, false, None, IfOk, slice_index};
 ghost use Rattle.air_base.specs.Bounds.{LAST_CYCLE};
 ghost use Rattle.air_base.specs.declared.bounds.TheConstants.{LONGEST_BYTE, SHORTEST_BYTE};
 ghost use Rattle.data_space.specs.declared.regions.TheConstants.{SRAM_LAST, SRAM_START};
-ghost use Rattle.air_base.specs.NodeRun.{answered};
+ghost use Rattle.air_base.specs.NodeRun.{Rests, answered};
 ghost use Rattle.node_core.specs.State.{reset};
-ghost use Rattle.node_core.specs.Cycle.{node_kind, end_row};
+ghost use Rattle.node_core.specs.Cycle.{begun_at, node_kind, end_row};
+ghost use Rattle.node_core.specs.Pace.Midway.{OnlyRests};
 ghost use Rattle.node_core.specs.Reached.{IsReached};
 
 use crate::machine::{Machine, ROWS_OF_A_CYCLE};
@@ -148,6 +149,34 @@ impl Node {
         } else {
             Reached::Cycle
         }
+    }
+
+    /// Passes cycles below `cycle` (at most 2^40) in which it only waits or sleeps: none where the next one is another.
+    pub fn rest_until(&mut self, cycle: u64)
+        requires ahead { self.old.cycle ≤ cycle }
+        requires early { cycle ≤ LAST_CYCLE }
+        requires calm { self.old.asking ≡ false }
+        requires going { self.old.state.stop ≡ None }
+        ensures rests { Rests node_kind self.old self.new.cycle self.new }
+        ensures within { self.new.cycle ≤ cycle }
+        ensures only { OnlyRests self.old.cycle (self.new.cycle - self.old.cycle) self.old.state }
+        ensures rows { self.new.rows ≡ self.old.rows }
+    {
+        self.cycle += self.machine.rest(self.cycle, cycle - self.cycle);
+    }
+
+    /// The word address of the instruction that begins in its next cycle, where one does.
+    pub fn begun(&self) -> Option<u16>
+        ensures { result ≡ begun_at self.now.state }
+    {
+        let machine = &self.machine;
+        if machine.stop.is_some() || machine.wait > 0 || machine.asleep {
+            return None;
+        }
+        if !machine.owed && machine.due().is_some() {
+            return None;
+        }
+        Some(machine.cpu.pc)
     }
 
     /// Finishes the cycle that samples the air, with what was heard.

@@ -37,13 +37,13 @@ use Rattle.pieces_law.proofs.Sizes.{text_short}
 use Rattle.pieces_law.proofs.Verdicts as verdicts
 
 -- ---- what was saved
-record IsCut (files : Files) (file : List ℕ) (epochs : ℕ) (saved : List ℕ) : Type 0 where
-  network : ScenarioOf
-  accepted_is : verdict files (network_plan file) ≡ Accepted network
-  early : nat_lt (epochs * epoch) network.topo.limit ≡ true
-  is : saved ≡ save_text network epochs
+pub record IsCut (files : Files) (file : List ℕ) (epochs : ℕ) (saved : List ℕ) : Type 0 where
+  pub network : ScenarioOf
+  pub accepted_is : verdict files (network_plan file) ≡ Accepted network
+  pub early : nat_lt (epochs * epoch) network.topo.limit ≡ true
+  pub is : saved ≡ save_text network epochs
 
-given : {A : Type 0} (files : Files) (got last : A) → verdict files (Give got) ≡ Accepted last → last ≡ got
+pub given : {A : Type 0} (files : Files) (got last : A) → verdict files (Give got) ≡ Accepted last → last ≡ got
 unfolding verdict
 given files got last e = cc
 
@@ -53,7 +53,7 @@ unfolding verdict
 early_case files file true network last e = (refl, cc)
 early_case files file false network last e = absurd (cc)
 
-cut_of : (files : Files) (file : List ℕ) (epochs : ℕ) (saved : List ℕ) → verdict files (plan_of (Save file epochs)) ≡ Accepted saved → IsCut files file epochs saved
+pub cut_of : (files : Files) (file : List ℕ) (epochs : ℕ) (saved : List ℕ) → verdict files (plan_of (Save file epochs)) ≡ Accepted saved → IsCut files file epochs saved
 unfolding plan_of
 cut_of files file epochs saved e =
     let p = verdicts.parts files (cut_plan file epochs) (λ network. Give (save_text network epochs)) saved e in
@@ -67,7 +67,7 @@ cut_of files file epochs saved e =
     }
 
 -- ---- what else is accepted
-gives : {A : Type 0} (files : Files) (got : A) → verdict files (Give got) ≡ Accepted got
+pub gives : {A : Type 0} (files : Files) (got : A) → verdict files (Give got) ≡ Accepted got
 unfolding verdict
 gives files got = refl
 
@@ -90,7 +90,7 @@ unfolding plan_of
 run_accepted files file network first =
     verdicts.joined files (network_plan file) (λ n. Give (trace_of n)) network (trace_of network) first (gives files (trace_of network))
 
-state_accepted : (files : Files) (name text : List ℕ) (network : ScenarioOf) (state : StateOf) → files name ≡ Some text → length text ≤ 4194304 → state_in network text ≡ Ok state
+pub state_accepted : (files : Files) (name text : List ℕ) (network : ScenarioOf) (state : StateOf) → files name ≡ Some text → length text ≤ 4194304 → state_in network text ≡ Ok state
     → verdict files (state_plan network name) ≡ Accepted state
 state_accepted files name text network state there le says =
     verdicts.reads files name 4194304 (BadState name cause.TooLong) (λ bytes. state_or name (state_in network bytes)) text state there le

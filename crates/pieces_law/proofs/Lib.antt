@@ -10,3 +10,5 @@ pub mod Room
 pub mod Joined
 -- The networks that no file describes are scenarios: that of `node`, and those of samples.
 pub mod Made
+-- Saves in turn are one save.
+pub mod InTurn

@@ -1,5 +1,5 @@
 -- A network that a command has accepted is that of accepted texts.
-use Rattle.std.proofs.Common.{◌≡◌, ℕ, suc, List, [], ◌∷◌, ◌++◌, length, map, Option, Some, None, Result, Ok, Err, refl, sym, ap, ◌∙◌, append_assoc, append-nil}
+use Rattle.std.proofs.Common.{◌≡◌, ◌≤◌, ℕ, suc, Bool, true, false, if◌then◌else◌, nat_le, List, [], ◌∷◌, ◌++◌, length, length-set, map, Option, Some, None, Result, Ok, Err, refl, sym, subst, ap, ◌∙◌, append_assoc, append-nil}
 use Rattle.std.specs.List.{All}
 use Rattle.std.proofs.lemmas.List.Elements.{All-cons, All-nil}
 use Rattle.ihex_loader.specs.Flash.{Image}
@@ -7,14 +7,19 @@ use Rattle.ihex_loader.specs.Image.{hex_fault, image}
 use Rattle.ihex_loader.specs.declared.fault.HexFault.{HexFault}
 use Rattle.scenario_file.specs.Scenario.{ScenarioParts, scenario_in}
 use Rattle.scenario_file.specs.declared.fault.ScenarioFault.{ScenarioFault}
+use Rattle.scenario_file.specs.declared.fault.ScenarioFault.TheVariants.{OutOfRange}
+use Rattle.serial_ports.specs.Script.{ScriptBytes}
+use Rattle.node_runner.proofs.Accepted.{is_scenario}
 use Rattle.node_runner.specs.Accepted.{IsAccepted}
-use Rattle.node_runner.specs.Scenario.{ScenarioOf}
-use Rattle.command_plans.specs.Plan.{Give, BadImage, BadScenario, and_then, image_or, image_plan, images_behind, images_plan, scenario_or, scenario_plan}
+use Rattle.node_runner.specs.Scenario.{IsScenario, ScenarioOf, with_script}
+use Rattle.command_words.specs.Words.{MonitorSpan, asked_by}
+use Rattle.command_words.proofs.Forms.{form_of, in_limits}
+use Rattle.command_plans.specs.Plan.{Give, Refuse, BadImage, BadScenario, and_then, image_or, image_plan, images_behind, images_plan, scenario_or, scenario_plan}
 use Rattle.command_plans.specs.Reading.{Files, Accepted, verdict}
 use Rattle.command_plans.specs.declared.trouble.ImageCause.TheVariants as image_cause
 use Rattle.command_plans.specs.declared.trouble.ScenarioCause.TheVariants as scenario_cause
 use Rattle.commands.specs.Network.{network_of}
-use Rattle.commands.specs.Plan.{network_plan}
+use Rattle.commands.specs.Plan.{images_for, network_plan, span_or, span_plan}
 use Rattle.pieces_law.proofs.Verdicts.{parts, read}
 
 -- ---- the text of a scenario
@@ -95,3 +100,47 @@ network_accepted files file network e =
       faultless = all.faultless;
       is = network_is files (network_of p.got q.got) network q.after ∙ ap (network_of p.got) all.is;
     }
+
+-- ---- other cycles in place of its window
+window_in : (files : Files) (name : List ℕ) (from to : ℕ) (said got : ScenarioParts) (b : Bool)
+    → verdict files (if b then Give (record said { window = (from, to) }) else Refuse (BadScenario name (scenario_cause.Faulty OutOfRange))) ≡ Accepted got
+    → got ≡ record said { window = (from, to) }
+unfolding verdict
+window_in files name from to said got true e = cc
+window_in files name from to said got false e = absurd (cc)
+
+span_from : (files : Files) (file : List ℕ) (from to : ℕ) (network : ScenarioOf) → from ≤ to → verdict files (span_plan file from to) ≡ Accepted network → IsScenario network
+span_from files file from to network rises e =
+    let p = parts files (and_then (scenario_plan file) (span_or file from to)) images_for network e in
+    let t = parts files (scenario_plan file) (span_or file from to) p.got p.first in
+    let s = said_in files file t.got t.first in
+    let w : p.got ≡ record t.got { window = (from, to) } = window_in files file from to t.got p.got (nat_le to t.got.topology.limit) t.after in
+    let q = parts files (images_plan p.got.images) (λ images. Give (network_of p.got images)) network p.after in
+    let all = all_loaded files [] p.got.images q.got q.first in
+    let whole : IsScenario (network_of t.got q.got) = is_scenario (network_of t.got q.got) (record {
+      text = s.text;
+      parts = t.got;
+      says = s.says;
+      files = all.texts;
+      count = all.many ∙ ap (λ (it : ScenarioParts). length it.images) w;
+      faultless = all.faultless;
+      is = ap (network_of t.got) all.is;
+    }) in
+    let is : network ≡ network_of (record t.got { window = (from, to) }) q.got = network_is files (network_of p.got q.got) network q.after ∙ ap (λ (it : ScenarioParts). network_of it q.got) w in
+    let spanned : IsScenario (network_of (record t.got { window = (from, to) }) q.got) = record { topo = whole.topo; images = whole.images; scripts = whole.scripts; window = rises } in
+    subst IsScenario (sym is) spanned
+
+pub span_scenario : (files : Files) (words : List (List ℕ)) (file : List ℕ) (from to : ℕ) (network : ScenarioOf) → asked_by words ≡ Some (MonitorSpan file from to)
+    → verdict files (span_plan file from to) ≡ Accepted network → IsScenario network
+span_scenario files words file from to network asked e =
+    let limits = in_limits words (MonitorSpan file from to) (form_of words (MonitorSpan file from to) asked) in
+    span_from files file from to network limits.0 e
+
+-- ---- another script at one of its nodes
+pub moved_scenario : (network : ScenarioOf) (node : ℕ) (script : ScriptBytes) → IsScenario network → IsScenario (with_script network node script)
+moved_scenario network node script is = record {
+  topo = is.topo;
+  images = is.images;
+  scripts = length-set network.scripts node script ∙ is.scripts;
+  window = is.window;
+}

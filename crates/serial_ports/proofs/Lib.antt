@@ -3,6 +3,8 @@
 pub mod RadioLaws
 -- The numbers of the radio: what their bounds say, and the one radio that has them.
 pub mod RadioSaved
+-- Stretches in order: the next byte is that of the first that is not over.
+pub mod InOrder
 -- The bytes of a script, stretch by stretch.
 pub mod ScriptArrivals
 -- The bytes of a stretch, by their numbers.

@@ -8,7 +8,7 @@ use Rattle.std.proofs.lemmas.Option.{slice_get-get_or, slice_get_within}
 use Rattle.serial_ports.specs.Script.{Arrives, IsByteOf, StretchBytes, first_byte, stretch_byte}
 
 -- ---- one stretch behind others
-or-none : (o : Option ℕ) → option_or o None ≡ o
+pub or-none : (o : Option ℕ) → option_or o None ≡ o
 or-none None = refl
 or-none (Some b) = refl
 

@@ -47,7 +47,7 @@ stretch-none s t some none = none-of (stretch_byte s t) refl
     none-of (Some b) e = let a = stretch-some s t b some (sym e) in absurd (none a.0 (slice_get_within s.bytes a.0 b a.2) a.1)
 
 -- of bytes at equal distances, one that is no earlier by number than another is no earlier by cycle
-later : (at every n i : ℕ) → n ≤ i → at + n * every ≤ at + i * every
+pub later : (at every n i : ℕ) → n ≤ i → at + n * every ≤ at + i * every
 later at every n i l = omega (arith, mul-le-mul_right every l)
 
 -- no byte any more, where the first n arrived before and there are no others

@@ -5,6 +5,7 @@ pub mod Transmission
 pub mod Usart
 pub mod UsartRegisters
 pub mod Script
+pub mod InOrder
 pub mod Numbers
 pub mod SpiNumbers
 pub mod UsartNumbers

@@ -5,6 +5,7 @@
 //! bytes. What answers a transfer is told to the interface from outside, at its end.
 #![tactic(auto)]
 
+mod in_order;
 mod numbers;
 mod radio;
 mod radio_numbers;

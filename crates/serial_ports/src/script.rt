@@ -4,15 +4,18 @@ ghost use Rattle.air_base.specs.Bounds.{LAST_CYCLE, LAST_END};
 ghost use Rattle.serial_ports.specs.Script.{Arrives, first_byte, script_byte};
 
 use crate::Stretch;
+use crate::in_order::{InOrder, are_in_order};
 use avr_base::NoMemory;
 use std::alloc::Global;
 use std::marker::Model;
 
-// No stretch or one, as most scripts have, is held without a list in memory: where no byte comes, one test tells it.
+// No stretch or one, as most scripts have, is held without a list in memory: where no byte comes, one test tells it. Of
+// those in order, as the moves of a sweep are, the next is searched for by halves; of others all are looked through.
 #[derive(Drop)]
 enum Stretches {
     Nothing,
     One(Stretch),
+    InOrder(InOrder),
     Many(Vec<Stretch>),
 }
 
@@ -66,7 +69,7 @@ fn quiet(stretches: &[Stretch], cycle: u64, most: u64) -> u64
 }
 
 // Equal stretches.
-fn copies(alloc: Global, stretches: &[Stretch]) -> Result<Vec<Stretch>, NoMemory>
+pub(crate) fn copies(alloc: Global, stretches: &[Stretch]) -> Result<Vec<Stretch>, NoMemory>
     ensures { IfOk result (λ copies. copies.items ≡ stretches.now) }
 {
     let mut copies = Vec::new(alloc);
@@ -99,6 +102,8 @@ impl Script {
     {
         let stretches = if stretches.is_empty() {
             Stretches::Nothing
+        } else if are_in_order(&stretches) {
+            Stretches::InOrder(InOrder::of(stretches))
         } else {
             Stretches::Many(stretches)
         };
@@ -113,11 +118,13 @@ impl Script {
         match &self.stretches {
             Stretches::Nothing => None,
             Stretches::One(stretch) => stretch.byte_at(cycle),
+            Stretches::InOrder(stretches) => stretches.byte_at(cycle),
             Stretches::Many(stretches) => first_byte(stretches, cycle),
         }
     }
 
     /// In how many of the cycles from `cycle` on, of at most `most`, no byte arrives. With no bytes it only compares.
+    #[inline]
     pub fn quiet(&self, cycle: u64, most: u64) -> u64
         requires { cycle + most ≤ LAST_END }
         ensures within { result ≤ most }
@@ -127,6 +134,7 @@ impl Script {
         match &self.stretches {
             Stretches::Nothing => most,
             Stretches::One(stretch) => stretch.quiet(cycle, most),
+            Stretches::InOrder(stretches) => stretches.quiet(cycle, most),
             Stretches::Many(stretches) => quiet(stretches, cycle, most),
         }
     }
@@ -138,6 +146,7 @@ impl Script {
         let stretches = match &self.stretches {
             Stretches::Nothing => Stretches::Nothing,
             Stretches::One(stretch) => Stretches::One(stretch.copy()?),
+            Stretches::InOrder(stretches) => Stretches::InOrder(stretches.copy()?),
             Stretches::Many(stretches) => {
                 Stretches::Many(copies(*stretches.allocator(), stretches)?)
             }

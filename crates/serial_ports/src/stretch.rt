@@ -1,6 +1,7 @@
 // Stretches of arriving bytes.
-ghost use Rattle.std.specs.Prelude.{◌≡◌, ℕ, ◌+◌, ◌-◌, ◌*◌, ◌<◌, ◌≤◌, true, None, length, slice_get, is_some, IfOk, IfSome};
+ghost use Rattle.std.specs.Prelude.{◌≡◌, ℕ, ◌+◌, ◌-◌, ◌*◌, ◌<◌, ◌≤◌, nat_le, true, None, length, slice_get, is_some, IfOk, IfSome};
 ghost use Rattle.air_base.specs.Bounds.{LAST_CYCLE, LAST_END};
+ghost use Rattle.serial_ports.specs.InOrder.{behind};
 ghost use Rattle.serial_ports.specs.Script.{IsByteOf, IsQuiet, stretch_byte};
 
 use avr_base::NoMemory;
@@ -117,6 +118,30 @@ impl Stretch {
             Some(rest) if rest < most => rest,
             _ => most,
         }
+    }
+
+    /// Whether it has a byte, and none before the cycle `from`.
+    pub(crate) fn begins_by(&self, from: u64) -> bool
+        ensures some { 1 ≤ self.now.every }
+        ensures begins { result ≡ true → (from ≤ self.now.at) × (1 ≤ length self.now.bytes) }
+    {
+        from <= self.at && !self.bytes.is_empty()
+    }
+
+    /// The cycle behind its last byte, where it has one.
+    #[inline]
+    pub(crate) fn behind(&self) -> u64
+        ensures { result ≡ behind self.now }
+    {
+        self.at + (self.bytes.len() as u64).saturating_sub(1) * self.every + 1
+    }
+
+    /// Whether that cycle has come.
+    #[inline]
+    pub(crate) fn is_over(&self, cycle: u64) -> bool
+        ensures { result ≡ nat_le (behind self.now) cycle }
+    {
+        self.behind() <= cycle
     }
 
     /// An equal stretch. `Err` only for want of memory.

@@ -50,8 +50,8 @@ pub fn watch(clocks: &Clocks<ListWorld>, mut seat: NodeSeat, node: u8, last: u64
     false
 }
 
-// Whether this is not so long ago that somebody was not woken.
-fn is_soon<R: Clock>(rt: &R, begun: Instant) -> bool {
+/// Whether this is not so long ago that somebody was not woken.
+pub fn is_soon<R: Clock>(rt: &R, begun: Instant) -> bool {
     match begun.elapsed(rt) {
         Ok(passed) => passed.as_secs() < LATE,
         Err(_) => false,

@@ -8,6 +8,9 @@
 //!   and node 1 samples each of them, behind it on one thread, or beside it on another one.
 //! - `front:SENDS:SAMPLES`, `all:SENDS:SAMPLES`: so many samples of 64 nodes that have sent so many bytes each, at the
 //!   newest sends or drawn over all of them.
+//! - `waits:N`: two nodes that hear each other wait for each other at each of so many samples. None of them is to sleep
+//!   until its time is up.
+//! - `halt`: a node waits at its sample for one that does not go on, and tells all to halt.
 #![tactic(auto)]
 
 mod calls;
@@ -15,6 +18,7 @@ mod clocks;
 mod nodes;
 mod rounds;
 mod samples;
+mod waits;
 mod words;
 mod world;
 
@@ -29,9 +33,13 @@ fn line_of<R: Threads + Wait + Clock + AllocGlobal + Sync>(rt: &R, trial: &str) 
     if trial == "clocks" {
         return clocks::on_threads(rt);
     }
+    if trial == "halt" {
+        return waits::at_halt(rt);
+    }
     let (call, numbers) = trial.split_once(':')?;
     match call {
         "wakes" => clocks::in_turns(rt, numbers.parse().ok()?),
+        "waits" => waits::at_samples(rt, numbers.parse().ok()?),
         "load" | "peek" | "raise" => clocks::on_one(rt.alloc(), call, numbers.parse().ok()?),
         "front" => samples::counted(rt.alloc(), false, numbers),
         "all" => samples::counted(rt.alloc(), true, numbers),

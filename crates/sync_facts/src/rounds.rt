@@ -41,8 +41,8 @@ struct Round {
     heard: u64,
 }
 
-// The parts of the nodes 0 and 1.
-fn two_of(clocks: &Clocks<ListWorld>, mut nodes: Vec<NodeAir>) -> Option<(NodeAir, NodeAir)>
+/// The parts of the nodes 0 and 1.
+pub fn two_of(clocks: &Clocks<ListWorld>, mut nodes: Vec<NodeAir>) -> Option<(NodeAir, NodeAir)>
     requires { AreFirstNodes clocks.now.table clocks.now.world nodes.items }
     ensures first { IfSome result (λ p. p.0 ≡ first_node clocks.now.table clocks.now.world 0) }
     ensures second { IfSome result (λ p. p.1 ≡ first_node clocks.now.table clocks.now.world 1) }

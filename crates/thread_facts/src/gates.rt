@@ -201,3 +201,27 @@ impl<'t> Gate for LastTurn<'t> {
         self.0.store(turn, Ordering::SeqCst);
     }
 }
+
+/// Holds nobody, refuses nothing, and counts what it is told and asked.
+#[derive(Drop)]
+pub struct Counted<'t> {
+    /// How many turns were told.
+    pub turns: &'t AtomicU64,
+    /// For how many nodes a thread was to be begun.
+    pub threads: &'t AtomicU64,
+}
+
+impl<'t> Gate for Counted<'t> {
+    fn reached<R: Wait>(&self, rt: &R, node: u8, turn: u64) {
+        // It waits for nobody.
+        let _ = rt;
+        let _ = (node, turn);
+        self.turns.fetch_add(1, Ordering::SeqCst);
+    }
+
+    fn refuses(&self, node: u8) -> bool {
+        let _ = node;
+        self.threads.fetch_add(1, Ordering::SeqCst);
+        false
+    }
+}

@@ -1,7 +1,7 @@
 //! Networks with each node on a thread of its own, beside gates that hold a node until another one has come far enough:
 //! so the stored run shows that all nodes are under way at once, that a node waits at a sample, and that one which
-//! waits for nobody goes ahead; or that refuse threads, so that it shows that nodes without one take turns. A body on
-//! one thread, one that does not wait, one in lockstep and one that leaves a refused node, or all others, behind each
+//! waits for nobody goes ahead; or that refuse threads, so that it shows that nodes without one take turns; or that are
+//! never to be told a turn, as by all words but those of `run FILE` and `make NUMBER`. A body on one thread, one that does not wait, one in lockstep and one that leaves a refused node, or all others, behind each
 //! fail one of them, and the first that fails is the last. The whole program is run, but for `main`. `command_facts`
 //! runs it.
 #![tactic(auto)]
@@ -9,20 +9,39 @@
 mod gates;
 mod runs;
 
-use gates::{AllBegin, FirstIsLate, LastTurn, NoThread, SecondIsLate, Told};
-use runs::{write_call, write_rows};
+use gates::{AllBegin, Counted, FirstIsLate, LastTurn, NoThread, SecondIsLate, Told};
+use runs::{write_call, write_end, write_rows};
 use sim_io::{Sink, write_all};
 use std::fs::Files;
 use std::sync::Wait;
 use std::sync::atomic::{AtomicBool, AtomicU64, Ordering};
 use std::thread::Threads;
-use stored_cases::{Failed, write_line};
+use stored_cases::{Failed, write_line, write_number};
 
 static RUN: [&str; 3] = ["avrora", "run", "gates.toml"];
 
 static APART: [&str; 3] = ["avrora", "run", "gates_apart.toml"];
 
 static MAKE: [&str; 3] = ["avrora", "make", "0"];
+
+// All that is done on one thread, one space between words, of which some calls have five with the program's name.
+static ON_ONE: [&str; 15] = [
+    "avrora run --plain gates.toml",
+    "avrora node gates_loop.hex 3000",
+    "avrora monitor gates.toml",
+    "avrora monitor gates.toml 0 500",
+    "avrora sniff gates.toml",
+    "avrora check gates.toml",
+    "avrora disasm gates_loop.hex",
+    "avrora asm a.s",
+    "avrora head sweep.toml 1",
+    "avrora save sweep.toml 1",
+    "avrora look sweep.toml 262144",
+    "avrora resume sweep.toml sweep.state",
+    "avrora head chain.toml 1 chain_1.state",
+    "avrora save chain.toml 1 chain_1.state",
+    "avrora sweep sweep.toml sweep.state three.moves",
+];
 
 // How many nodes `make 0` has.
 const MADE: u64 = 8;
@@ -188,6 +207,55 @@ fn epochs<R: Threads + Wait + Files + AllocGlobal + Sync, O: Sink>(
     write_seen("turn 256 was told", last.load(Ordering::SeqCst) >= 256, out)
 }
 
+// The whole program, called by these words: it tells of no turn, and begins no thread.
+fn call_on_one<R: Threads + Wait + Files + AllocGlobal + Sync, O: Sink>(
+    rt: &R,
+    call: &str,
+    out: &mut O,
+) -> Result<(), Failed> {
+    write_line(call, out)?;
+    let words: Vec<&str> = call.split(' ').collect(rt.alloc())?;
+    let (turns, threads) = (AtomicU64::new(0), AtomicU64::new(0));
+    let gate = Counted {
+        turns: &turns,
+        threads: &threads,
+    };
+    write_end(rt, words.as_slice(), &gate, out)?;
+    let seen = turns.load(Ordering::SeqCst) == 0 && threads.load(Ordering::SeqCst) == 0;
+    write_seen("no node was on a thread of its own", seen, out)
+}
+
+// Each call that is done on one thread.
+fn on_one<R: Threads + Wait + Files + AllocGlobal + Sync, O: Sink>(
+    rt: &R,
+    out: &mut O,
+) -> Result<(), Failed> {
+    write_line("# all but run and make is done on one thread", out)?;
+    let calls = ON_ONE;
+    for call in calls {
+        call_on_one(rt, call, out)?;
+    }
+    Ok(())
+}
+
+// The thread of the call is the last node's: of two nodes one has a thread begun for it, and a lone one has none.
+fn own_thread<R: Threads + Wait + Files + AllocGlobal + Sync, O: Sink>(
+    rt: &R,
+    out: &mut O,
+) -> Result<(), Failed> {
+    write_line("# threads begun for two nodes, for eight and for one", out)?;
+    for words in [&RUN, &MAKE, &LONG] {
+        let (turns, threads) = (AtomicU64::new(0), AtomicU64::new(0));
+        let gate = Counted {
+            turns: &turns,
+            threads: &threads,
+        };
+        write_end(rt, words, &gate, out)?;
+        write_number("threads", threads.load(Ordering::SeqCst), out)?;
+    }
+    Ok(())
+}
+
 /// Does the runs beside all gates, one after another, and writes what was seen.
 pub fn do_all<R: Threads + Wait + Files + AllocGlobal + Sync, O: Sink>(
     rt: &R,
@@ -198,5 +266,7 @@ pub fn do_all<R: Threads + Wait + Files + AllocGlobal + Sync, O: Sink>(
     one_refused(rt, out)?;
     first_is_late(rt, out)?;
     second_is_late(rt, out)?;
-    epochs(rt, out)
+    epochs(rt, out)?;
+    on_one(rt, out)?;
+    own_thread(rt, out)
 }

@@ -87,6 +87,35 @@ impl<'w> Env for Given<'w> {
     }
 }
 
+// What a call came to: its status, and what stands on both streams.
+#[derive(Drop)]
+struct Ended {
+    status: u8,
+    out: MemSink,
+    err: MemSink,
+}
+
+// The program, called by these words, its name first, over the files beside it. The write to the output with the number
+// `fails`, from 0, fails, if there is one.
+fn call<R: Threads + Wait + Files + AllocGlobal + Sync, G: Gate + Sync>(
+    rt: &R,
+    words: &[&str],
+    fails: Option<u64>,
+    gate: &G,
+) -> Result<Ended, Failed> {
+    let alloc = rt.alloc();
+    let mut fail = Vec::new(alloc);
+    if let Some(number) = fails {
+        fail.push(number)?;
+    }
+    let mut out = MemSink::new(alloc, AMPLE, AMPLE, fail)?;
+    let mut err = MemSink::new(alloc, AMPLE, AMPLE, Vec::new(alloc))?;
+    let mut store = DirStore::new(rt);
+    let given = Given { words };
+    let status = run_program(rt, &given, &mut store, &mut out, &mut err, gate);
+    Ok(Ended { status, out, err })
+}
+
 /// Writes the status with which the program ends that is called by these words, its name first, over the files beside
 /// it, and what stands on both streams. The write to the output with the number `fails`, from 0, fails, if there is one.
 pub fn write_call<R: Threads + Wait + Files + AllocGlobal + Sync, G: Gate + Sync, O: Sink>(
@@ -96,17 +125,21 @@ pub fn write_call<R: Threads + Wait + Files + AllocGlobal + Sync, G: Gate + Sync
     gate: &G,
     out: &mut O,
 ) -> Result<(), Failed> {
-    let alloc = rt.alloc();
-    let mut fail = Vec::new(alloc);
-    if let Some(number) = fails {
-        fail.push(number)?;
-    }
-    let mut taken = MemSink::new(alloc, AMPLE, AMPLE, fail)?;
-    let mut said = MemSink::new(alloc, AMPLE, AMPLE, Vec::new(alloc))?;
-    let mut store = DirStore::new(rt);
-    let given = Given { words };
-    let status = run_program(rt, &given, &mut store, &mut taken, &mut said, gate);
-    write_number("status", u64::from(status), out)?;
-    write_all(out, taken.taken())?;
-    Ok(write_all(out, said.taken())?)
+    let ended = call(rt, words, fails, gate)?;
+    write_number("status", u64::from(ended.status), out)?;
+    write_all(out, ended.out.taken())?;
+    Ok(write_all(out, ended.err.taken())?)
+}
+
+/// The same, but of the output only how many bytes it has.
+pub fn write_end<R: Threads + Wait + Files + AllocGlobal + Sync, G: Gate + Sync, O: Sink>(
+    rt: &R,
+    words: &[&str],
+    gate: &G,
+    out: &mut O,
+) -> Result<(), Failed> {
+    let ended = call(rt, words, None, gate)?;
+    write_number("status", u64::from(ended.status), out)?;
+    write_number("bytes", ended.out.taken().len() as u64, out)?;
+    Ok(write_all(out, ended.err.taken())?)
 }

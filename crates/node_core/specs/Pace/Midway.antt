@@ -21,7 +21,8 @@ use Rattle.serial_ports.specs.Script.{script_byte}
 use Rattle.node_core.specs.Inside.{IsGoing}
 use Rattle.node_core.specs.Shown.{shown}
 use Rattle.node_core.specs.State.{NodeState}
-use Rattle.node_core.specs.Cycle.{cpu_cycle, cpu_rows, instructed, instructed_rows, node_kind, row}
+use Rattle.board_io.specs.Cycle.{timers_leap}
+use Rattle.node_core.specs.Cycle.{begins, cpu_cycle, cpu_rows, instructed, instructed_rows, node_kind, row}
 
 -- from v on the node came through quiet cycles to the beginning of cycle c, ran there, and is now at u with rows k
 pub record IsMidway (v : Timed NodeState Row) (c : ℕ) (u : NodeState) (k : List Row) : Type 0 where
@@ -41,8 +42,18 @@ pub record IsActed (n : ℕ) (u : NodeState) (k : List Row) (old new : Machine) 
   pub room : vec_capacity new.rows ≡ vec_capacity old.rows
   pub clock : new.bus.io.clock ≡ old.bus.io.clock
 
+-- a node after i cycles of a wait or of sleep, from cycle t on
+abbrev pub rested : ℕ → ℕ → NodeState → NodeState
+rested t i s = record s { wait = s.wait - i; board = timers_leap t i s.board }
+
+-- n cycles from cycle t on that a node in state s only waits or sleeps, and the timers alone move
+pub record OnlyRests (t n : ℕ) (s : NodeState) : Type 0 where
+  pub still : (i : ℕ) → i ≤ n → passed node_kind t i s ≡ rested t i s
+  pub none : (i : ℕ) → i < n → begins (rested t i s) ≡ false
+
 -- n cycles from cycle t on in which it only waited or slept
 pub record IsRested (t n : ℕ) (old new : Machine) : Type 0 where
+  pub only : OnlyRests t n (shown old)
   pub quiet : AllQuiet node_kind t n (shown old)
   pub state : shown new ≡ passed node_kind t n (shown old)
   pub rows : passed_rows node_kind t n (shown old) ≡ []
@@ -153,12 +164,12 @@ pub record MayEnd (end n : ℕ) (m : Machine) : Type 0 where
   pub within : m.bus.io.clock ≤ end
   pub none : (i : ℕ) → m.bus.io.clock + i < end → script_byte m.script (m.bus.io.clock + i) ≡ None
 
--- a sprint from cycle t on, of at most up to `end`, between two instructions: no line is up. Parts of the core stand
+-- a sprint from cycle t on, of at most up to `end`, between two instructions: no line is up, or the flag I is off. Parts of the core stand
 -- beside the machine, which says of no instruction that it is owed; one is, up to this count of them
 pub record IsTurning (t end : ℕ) (first m : Machine) (regs : Registers) (core : Core) (owed_to : ℕ) : Type 0 where
   pub within : m.bus.io.clock ≤ end
   pub off : m.owed ≡ false
-  pub clear : (lines_of m.bus.io.board).bits ≡ 0
+  pub clear : nat_lt core.sreg.bits 128 ≡ false → (lines_of m.bus.io.board).bits ≡ 0
   pub top : owed_to ≤ m.count + 1
   pub runs : IsSprinting t m.bus.io.clock first (owing (nat_lt m.count owed_to) (beside regs core m))
 

@@ -194,6 +194,7 @@ impl Machine {
         ensures sprinted { IsSprinted cycle (cycle + result) false self.old self.new }
         ensures others { self.new ≡ record self.old { bus = self.new.bus; count = self.new.count } }
         ensures lines { lines_of self.new.bus.io.board ≡ lines_of self.old.bus.io.board }
+        ensures flags { self.new.cpu.sreg ≡ self.old.cpu.sreg }
         ensures within { cycle + result ≤ end }
     {
         if self.owed {
@@ -219,6 +220,7 @@ impl Machine {
         ensures sprinted { IsSprinted cycle (cycle + result) false self.old self.new }
         ensures others { self.new ≡ record self.old { cpu = self.new.cpu; bus = self.new.bus; count = self.new.count } }
         ensures lines { lines_of self.new.bus.io.board ≡ lines_of self.old.bus.io.board }
+        ensures flags { self.new.cpu.sreg ≡ self.old.cpu.sreg }
         ensures within { cycle + result ≤ end }
     {
         match self.program.op(self.cpu.pc) {

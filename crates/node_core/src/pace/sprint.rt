@@ -1,7 +1,8 @@
 // Instructions of a node, one behind another, while nothing is due.
 ghost use Rattle.std.specs.Prelude.{◌≡◌, ◌≤◌, ◌<◌, ◌+◌, nat_le, nat_lt, ℕ, None, true, false, IfSome};
 ghost use Rattle.air_base.specs.Bounds.{LAST_CYCLE, LAST_END};
-ghost use Rattle.board_io.specs.Lagging.{IsClear};
+ghost use Rattle.board_io.specs.Lines.{lines_of};
+ghost use Rattle.board_io.specs.Lagging.{IsUneventful};
 ghost use Rattle.node_core.specs.Inside.{MayAct, is_told};
 ghost use Rattle.node_core.specs.Interrupts.{due};
 ghost use Rattle.node_core.specs.Pace.Midway.{IsSprinted, IsSprinting, IsStep, IsStepped, MayEnd, beside, counted, leaves_board, leaves_i, over, owing, step_of};
@@ -65,9 +66,19 @@ fn is_on(sreg: u8) -> bool
 #[inline(always)]
 fn clear_to(bus: &NodeBus, end: u64) -> u64
     ensures within { result ≤ end }
-    ensures clear { IsClear result bus.now.io }
+    ensures calm { IsUneventful result bus.now.io }
+    ensures down { bus.now.io.clock < result → (lines_of bus.now.io.board).bits ≡ 0 }
 {
     end.min(bus.io.clear())
+}
+
+// That cycle, be a line up or not.
+#[inline(always)]
+fn calm_to(bus: &NodeBus, end: u64) -> u64
+    ensures within { result ≤ end }
+    ensures calm { IsUneventful result bus.now.io }
+{
+    end.min(bus.io.calm())
 }
 
 // Counts an instruction that was executed, and says what the step did.
@@ -162,6 +173,14 @@ impl Machine {
         self.bus.io.now()
     }
 
+    // Whether a line is up and the flag I is on.
+    #[inline(always)]
+    fn is_let_in(&self) -> bool
+        ensures { result ≡ false → nat_lt self.now.cpu.sreg.bits 128 ≡ false → (lines_of self.now.bus.io.board).bits ≡ 0 }
+    {
+        is_on(self.cpu.sreg.bits) && self.bus.io.lines().bits != 0
+    }
+
     // The last cycle of those from `cycle` on and up to `end` before the window, or of all behind it: an instruction that
     // begins by then has no row. `None` within the window.
     #[inline]
@@ -181,9 +200,9 @@ impl Machine {
     }
 
     /// Executes instructions from `cycle` on, before the window or behind it and up to `end`, below which no byte arrives,
-    /// while no interrupt line is up and the devices end nothing. It ends before SLEEP and before an instruction that
-    /// halts the node. Where a line is up, it only leaps over a loop that waits, and, by `back`, only behind a jump back.
-    pub fn sprint(&mut self, cycle: u64, end: u64, back: bool) -> Sprinted
+    /// while no interrupt is let in, by the lines and the flag I, and the devices end nothing. It ends before SLEEP and
+    /// before an instruction that halts the node.
+    pub fn sprint(&mut self, cycle: u64, end: u64) -> Sprinted
         requires may { MayAct cycle self.old }
         requires within { cycle ≤ end }
         requires early { end ≤ LAST_CYCLE }
@@ -197,13 +216,6 @@ impl Machine {
                 inside: false,
             };
         };
-        if back && self.bus.io.lines().bits != 0 {
-            let passed = self.leap(cycle, last);
-            return Sprinted {
-                at: cycle + passed,
-                inside: false,
-            };
-        }
         // it executes the instruction that begins at its end, too
         self.sprint_untold(cycle, last)
     }
@@ -218,7 +230,7 @@ impl Machine {
         ensures sprinted { IsSprinted cycle result.at result.inside self.old self.new }
         ensures within { result.at ≤ end }
     {
-        if self.owed || self.bus.io.lines().bits != 0 {
+        if self.owed || self.is_let_in() {
             return Sprinted {
                 at: cycle,
                 inside: false,
@@ -236,8 +248,8 @@ impl Machine {
         let mut owed_to = 0;
         loop {
             let slots = self.program.slots();
-            // only an access to a device moves it
-            let mut bound = clear_to(&self.bus, end);
+            // only an access to a device moves it: the lines then count, be the flag I on or not
+            let mut bound = calm_to(&self.bus, end);
             loop {
                 match one_step(
                     &self.program,

@@ -80,16 +80,13 @@ impl Machine {
             return 0;
         }
         let end = cycle + self.script.quiet(cycle, most - 1);
-        // whether the program counter was just set back
-        let mut back = false;
         let mut at = cycle;
         loop {
-            let sprinted = self.sprint(at, end, back);
+            let sprinted = self.sprint(at, end);
             at = sprinted.at;
             if sprinted.inside {
                 return at - cycle;
             }
-            let pc = self.cpu.pc;
             let taken = self.act(at);
             // a cycle in which the devices do more may have rows of theirs
             if !self.has_room() {
@@ -98,7 +95,6 @@ impl Machine {
             if !self.finish_instruction(at, end, taken) {
                 return at - cycle;
             }
-            back = self.cpu.pc <= pc;
             at += u64::from(taken);
         }
     }

@@ -1,5 +1,5 @@
 use Rattle.node_runner.proofs.Accepted.{is_scenario}
-use Rattle.pieces_law.proofs.Networks.{network_accepted}
+use Rattle.pieces_law.proofs.Networks.{network_accepted, span_scenario, moved_scenario}
 use Rattle.pieces_law.proofs.Made.{alone, made}
 use Rattle.pieces_law.proofs.network_law.Goals as goal
 
@@ -14,3 +14,9 @@ returns-clause-alone c = alone
 
 pub returns-clause-sample : goal.returns-clause-sample
 returns-clause-sample c = made
+
+pub returns-clause-span : goal.returns-clause-span
+returns-clause-span c = span_scenario
+
+pub returns-clause-moved : goal.returns-clause-moved
+returns-clause-moved c = moved_scenario

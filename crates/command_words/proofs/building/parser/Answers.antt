@@ -18,9 +18,10 @@ loop-form-preserved c = record {
 subs : List App
 subs =
     node_app ∷ run_app ∷ one_word_app (codes "make") (codes "number") ∷ monitor_app ∷ one_word_app (codes "sniff") (codes "file")
+    ∷ cut_app (codes "look") (codes "cycle")
     ∷ one_word_app (codes "check") (codes "file") ∷ one_word_app (codes "disasm") (codes "file")
-    ∷ one_word_app (codes "asm") (codes "file") ∷ cut_app (codes "head")
-    ∷ cut_app (codes "save") ∷ two_words_app (codes "resume") (codes "state") ∷ sweep_app ∷ []
+    ∷ one_word_app (codes "asm") (codes "file") ∷ cut_app (codes "head") (codes "epochs")
+    ∷ cut_app (codes "save") (codes "epochs") ∷ two_words_app (codes "resume") (codes "state") ∷ sweep_app ∷ []
 
 pub returns : goal.returns
 unfolding form_met subs

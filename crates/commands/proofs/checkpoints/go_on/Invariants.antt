@@ -1,5 +1,4 @@
 use Rattle.std.proofs.Common.{◌≡◌, ◌≤◌, ◌-◌, false}
-use Rattle.commands.specs.Parts.{EndsFrom}
 use Rattle.commands.proofs.checkpoints.go_on.Given as goal
 
 abbrev pub invariant-loop-saved : goal.invariant-loop-saved
@@ -7,7 +6,6 @@ invariant-loop-saved l = record {
   same : l.saved.scenario ≡ l.network;
   state : l.saved.state ≡ l.fn.saved.state;
   sound : l.saved.failed ≡ false;
-  at : EndsFrom l.network l.fn.saved.state.cycle l.saved.floor;
   within : l.saved.floor ≤ l.end;
 }
 

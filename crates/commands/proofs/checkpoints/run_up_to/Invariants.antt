@@ -1,12 +1,10 @@
 use Rattle.std.proofs.Common.{◌≡◌, ◌≤◌, ◌-◌, false}
-use Rattle.commands.specs.Parts.{EndsEpoch}
 use Rattle.commands.proofs.checkpoints.run_up_to.Given as goal
 
 abbrev pub invariant-loop-run : goal.invariant-loop-run
 invariant-loop-run l = record {
   same : l.run.scenario ≡ l.network;
   sound : l.run.failed ≡ false;
-  at : EndsEpoch l.network l.run.floor;
   within : l.run.floor ≤ l.end;
 }
 

@@ -1,4 +1,4 @@
-use Rattle.std.proofs.Common.{ℕ, List, refl, sym, ap}
+use Rattle.std.proofs.Common.{ℕ, List, refl, sym, ap, arith}
 use Rattle.std.proofs.lemmas.Result.{err_from_is_err_and}
 use Rattle.node_runner.specs.Scenario.{ScenarioOf}
 use Rattle.ihex_loader.specs.Hex.{hex_of}
@@ -11,9 +11,9 @@ use Rattle.command_plans.proofs.Steps.{stopped_behind}
 use Rattle.commands.specs.Listing.{listing}
 use Rattle.commands.specs.Network.{lone_node, size_line, trace_of}
 use Rattle.commands.specs.Parts.{output}
-use Rattle.commands.specs.Plan.{cut_on_plan, cut_plan, network_plan, plan_of, span_plan, sweep_plan}
+use Rattle.commands.specs.Plan.{cut_on_plan, cut_plan, look_plan, network_plan, plan_of, span_plan, sweep_plan}
 use Rattle.commands.specs.Sample.{sample_line}
-use Rattle.commands.specs.Texts.{head_on_text, head_text, save_on_text, save_text, sweep_text}
+use Rattle.commands.specs.Texts.{head_on_text, head_text, look_text, save_text, sweep_text}
 use Rattle.commands.proofs.Networks.{network_ready, ready}
 use Rattle.commands.proofs.States.{resume_ready, resume_stopped}
 use Rattle.commands.proofs.reading.read_job.Goals as goal
@@ -125,7 +125,9 @@ returns-in_err-network-in-Head-clause-read g c =
 
 pub returns-in_ok-network-in-Save-clause-read : goal.returns-in_ok-network-in-Save-clause-read
 unfolding plan_of output
-returns-in_ok-network-in-Save-clause-read g c = rw c.in-Save.is (network_ready _ (cut_plan c.in-Save.file.now c.in-Save.epochs) (λ network. save_text network c.in-Save.epochs) _ _ _ _ _ _ c.in_ok-network-in-Save.ensures.ok refl c.in_ok-network-in-Save.ensures.within)
+returns-in_ok-network-in-Save-clause-read g c =
+    let early = c.in_ok-network-in-Save.ensures.within in
+    rw c.in-Save.is (network_ready _ (cut_plan c.in-Save.file.now c.in-Save.epochs) (λ network. save_text network c.in-Save.epochs) _ _ _ _ _ _ c.in_ok-network-in-Save.ensures.ok refl (omega (arith, early)))
 
 pub returns-in_err-network-in-Save-clause-read : goal.returns-in_err-network-in-Save-clause-read
 unfolding plan_of output
@@ -157,7 +159,7 @@ pub returns-in_ok-network-in-HeadOn-clause-read : goal.returns-in_ok-network-in-
 unfolding plan_of output
 returns-in_ok-network-in-HeadOn-clause-read g c =
     let read = c.in_ok-network-in-HeadOn.ensures.ok in
-    rw c.in-HeadOn.is (ready _ (cut_on_plan c.in-HeadOn.file.now c.in-HeadOn.epochs c.in-HeadOn.state.now) (λ at. head_on_text at.0 at.1 c.in-HeadOn.epochs) _ _ _ _ _ _ read.reached refl read.same read.silent read.cut)
+    rw c.in-HeadOn.is (ready _ (cut_on_plan c.in-HeadOn.file.now c.in-HeadOn.epochs c.in-HeadOn.state.now) (λ at. head_on_text at.0 at.1 c.in-HeadOn.epochs) _ _ _ _ _ _ read.reached refl read.same read.silent c.in_ok-network-in-HeadOn.ensures.cut)
 
 pub returns-in_err-network-in-HeadOn-clause-read : goal.returns-in_err-network-in-HeadOn-clause-read
 unfolding plan_of output
@@ -169,13 +171,35 @@ pub returns-in_ok-network-in-SaveOn-clause-read : goal.returns-in_ok-network-in-
 unfolding plan_of output
 returns-in_ok-network-in-SaveOn-clause-read g c =
     let read = c.in_ok-network-in-SaveOn.ensures.ok in
-    rw c.in-SaveOn.is (ready _ (cut_on_plan c.in-SaveOn.file.now c.in-SaveOn.epochs c.in-SaveOn.state.now) (λ at. save_on_text at.0 at.1 c.in-SaveOn.epochs) _ _ _ _ _ _ read.reached refl read.same read.silent read.cut)
+    rw c.in-SaveOn.is (record { reached = read.reached; same = read.same; silent = read.silent; short = c.in_ok-network-in-SaveOn.ensures.come })
 
 pub returns-in_err-network-in-SaveOn-clause-read : goal.returns-in_err-network-in-SaveOn-clause-read
 unfolding plan_of output
 returns-in_err-network-in-SaveOn-clause-read g c =
     let p = err_from_is_err_and c.from_residual-in_err-network-in-SaveOn.result c.from_residual-in_err-network-in-SaveOn.ensures.1 in
-    rw (p.1, p.2, c.in-SaveOn.is) (stopped_behind _ (cut_on_plan c.in-SaveOn.file.now c.in-SaveOn.epochs c.in-SaveOn.state.now) _ _ _ _ _ _ c.in_err-network-in-SaveOn.ensures.err)
+    rw (p.1, p.2, c.in-SaveOn.is) c.in_err-network-in-SaveOn.ensures.err
+
+pub returns-in_ok-network-in-Look-clause-read : goal.returns-in_ok-network-in-Look-clause-read
+unfolding plan_of output
+returns-in_ok-network-in-Look-clause-read g c = rw c.in-Look.is (network_ready _ (look_plan c.in-Look.file.now c.in-Look.cycle) (λ network. look_text network c.in-Look.cycle) _ _ _ _ _ _ c.in_ok-network-in-Look.ensures.ok refl c.in_ok-network-in-Look.ensures.within)
+
+pub returns-in_err-network-in-Look-clause-read : goal.returns-in_err-network-in-Look-clause-read
+unfolding plan_of output
+returns-in_err-network-in-Look-clause-read g c =
+    let p = err_from_is_err_and c.from_residual-in_err-network-in-Look.result c.from_residual-in_err-network-in-Look.ensures.1 in
+    rw (p.1, p.2, c.in-Look.is) (stopped_behind _ (look_plan c.in-Look.file.now c.in-Look.cycle) _ _ _ _ _ _ c.in_err-network-in-Look.ensures.err)
+
+pub returns-in_ok-network-in-LookOn-clause-read : goal.returns-in_ok-network-in-LookOn-clause-read
+unfolding plan_of output
+returns-in_ok-network-in-LookOn-clause-read g c =
+    let read = c.in_ok-network-in-LookOn.ensures.ok in
+    rw c.in-LookOn.is (record { reached = read.reached; same = read.same; silent = read.silent; short = c.in_ok-network-in-LookOn.ensures.come })
+
+pub returns-in_err-network-in-LookOn-clause-read : goal.returns-in_err-network-in-LookOn-clause-read
+unfolding plan_of output
+returns-in_err-network-in-LookOn-clause-read g c =
+    let p = err_from_is_err_and c.from_residual-in_err-network-in-LookOn.result c.from_residual-in_err-network-in-LookOn.ensures.1 in
+    rw (p.1, p.2, c.in-LookOn.is) c.in_err-network-in-LookOn.ensures.err
 
 pub returns-in_ok-network-in-MonitorSpan-clause-read : goal.returns-in_ok-network-in-MonitorSpan-clause-read
 unfolding plan_of output

@@ -12,13 +12,13 @@ use Rattle.node_core.proofs.Steady.{steady}
 use Rattle.fleet_flight.specs.Origin.{flown}
 use Rattle.fleet_flight.specs.Turns.{IsLow, IsTurn, Takes, is_live}
 use Rattle.fleet_flight.specs.declared.turns.Turn.{Turn}
-use Rattle.fleet_flight.proofs.Flights.{land, take_off}
+use Rattle.fleet_flight.proofs.Flights.{land, take_off, whole}
 use Rattle.fleet_flight.proofs.Steps.{can_post, flight_on, here, moves, still_low}
 use Rattle.fleet_flight.proofs.flight.run_to.Goals as goal
 
 pub loop-turn-init : goal.loop-turn-init
 loop-turn-init g c = record {
-  flight = take_off (flown (g.B.Begins.origin c.args.from.now)) c.args.floor c.args.end steady c.args.nodes.now.items c.args.log.now.sends c.requires.paused c.requires.more;
+  flight = take_off (flown (g.B.Begins.origin c.args.from.now)) c.args.floor c.args.end steady c.args.hold c.args.nodes.now.items c.args.log.now.sends c.requires.paused c.requires.more c.requires.hold;
   turn = search rules;
 }
 
@@ -45,7 +45,7 @@ advance-requires-clause-post g c =
     let n = fl.count in
     let b = subst (λ (o : Option Turn). IsTurn node_kind c.args.end c.lookahead-ahead.result vs o) c.in-Some.is c.loop-turn.invariant.turn in
     let live = subst (λ (u : Timed NodeState Row). is_live node_kind c.args.end u ≡ true) (sym c.index_mut.ensures.value) (b.live v) in
-    can_post f steady c.args.floor c.args.end vs c.loop-turn.log.sends fl t.number v t.low (let h = b.within in omega arith) c.index_mut.ensures.value live b.low c.topo-topo.ensures.sound.ranges.nodes_to
+    can_post f steady c.args.floor c.args.end c.args.hold vs c.loop-turn.log.sends fl t.number v t.low (let h = b.within in omega arith) c.index_mut.ensures.value live b.low c.topo-topo.ensures.sound.ranges.nodes_to
 
 pub next_turn-turn-requires-clause-low : goal.next_turn-turn-requires-clause-low
 next_turn-turn-requires-clause-low g c =
@@ -59,8 +59,8 @@ next_turn-turn-requires-clause-low g c =
     let b = subst (λ (o : Option Turn). IsTurn node_kind c.args.end c.lookahead-ahead.result vs o) c.in-Some.is c.loop-turn.invariant.turn in
     let l : t.number < f.topo.nodes = (let h = b.within in omega arith) in
     let live = subst (λ (u : Timed NodeState Row). is_live node_kind c.args.end u ≡ true) (sym c.index_mut.ensures.value) (b.live v) in
-    let early = (here f steady c.args.floor c.args.end vs c.loop-turn.log.sends fl t.number v t.low l c.index_mut.ensures.value live b.low).1 in
-    let moved = moves node_kind c.args.end v w live early c.topo-topo.result.now t.number t.low c.loop-turn.log.sends c.advance.new.log.sends c.in_ok-advance.ensures in
+    let early = (here f steady c.args.floor c.args.end c.args.hold vs c.loop-turn.log.sends fl t.number v t.low l c.index_mut.ensures.value live b.low).1 in
+    let moved = moves node_kind c.args.end v w live early c.topo-topo.result.now t.number c.min.result c.loop-turn.log.sends c.advance.new.log.sends c.in_ok-advance.ensures in
     subst (λ (us : List (Timed NodeState Row)). IsLow node_kind c.args.end t.low us) (sym c.deref-in-Some.ensures.value)
     (still_low node_kind c.args.end t.low vs t.number v w b.within c.index_mut.ensures.value live moved.0 b.low)
 
@@ -79,15 +79,24 @@ loop-turn-preserved g c =
     let live = subst (λ (u : Timed NodeState Row). is_live node_kind c.args.end u ≡ true) (sym c.index_mut.ensures.value) (b.live v) in
     let near = subst (λ (u : Timed NodeState Row). u.cycle < t.low + c.lookahead-ahead.result) (sym c.index_mut.ensures.value) (b.near v) in
     let each = subst (λ (t : Topology). All (λ l. c.lookahead-ahead.result ≤ latency_of t l.from l.to) t.links) own c.lookahead-ahead.ensures.each in
-    let takes = subst (λ (u : Topology). Takes node_kind u t.number t.low c.args.end v c.loop-turn.log.sends w c.advance.new.log.sends) own c.in_ok-advance.ensures in
+    let drop = c.min.result in
+    let least = c.min.ensures in
+    let takes = subst (λ (u : Topology). Takes node_kind u t.number drop c.args.end v c.loop-turn.log.sends w c.advance.new.log.sends) own c.in_ok-advance.ensures in
     record {
-      flight = flight_on f steady c.args.floor c.args.end vs c.loop-turn.log.sends fl t.number v t.low c.lookahead-ahead.result l c.index_mut.ensures.value live b.low c.lookahead-ahead.ensures.some each near w c.advance.new.log.sends takes;
+      flight = flight_on f steady c.args.floor c.args.end c.args.hold vs c.loop-turn.log.sends fl t.number v t.low c.lookahead-ahead.result l c.index_mut.ensures.value live b.low c.lookahead-ahead.ensures.some each near drop (omega (arith, least)) (omega (arith, least)) w c.advance.new.log.sends takes;
       turn = subst (λ (us : List (Timed NodeState Row)). IsTurn node_kind c.args.end c.lookahead-ahead.result us c.next_turn-turn.result) c.deref-in-Some.ensures.value c.next_turn-turn.ensures;
     }
 
-pub returns : goal.returns
-returns g c =
+pub returns-clause-paused : goal.returns-clause-paused
+returns-clause-paused g c =
     let f = flown (g.B.Begins.origin c.args.from.now) in
     let nobody : Timed NodeState Row = record { cycle = 0; asking = false; state = f.begins 0; rows = [] } in
     let still : All (λ v. is_live node_kind c.args.end v ≡ false) c.loop-turn.nodes.items = search rules in
-    land f c.args.floor c.args.end c.loop-turn.nodes.items c.loop-turn.log.sends c.loop-turn.invariant.flight still nobody
+    land f c.args.floor c.args.end c.args.hold c.loop-turn.nodes.items c.loop-turn.log.sends c.loop-turn.invariant.flight still nobody
+
+pub returns-clause-held : goal.returns-clause-held
+returns-clause-held g c =
+    let f = flown (g.B.Begins.origin c.args.from.now) in
+    let nobody : Timed NodeState Row = record { cycle = 0; asking = false; state = f.begins 0; rows = [] } in
+    let still : All (λ v. is_live node_kind c.args.end v ≡ false) c.loop-turn.nodes.items = search rules in
+    whole f c.args.floor c.args.end c.args.hold c.loop-turn.nodes.items c.loop-turn.log.sends c.loop-turn.invariant.flight still nobody

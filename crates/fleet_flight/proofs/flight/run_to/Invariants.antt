@@ -8,7 +8,7 @@ use Rattle.fleet_flight.proofs.flight.run_to.Given as goal
 
 abbrev pub invariant-loop-turn : goal.invariant-loop-turn
 invariant-loop-turn g l = record {
-  flight : InFlight (flown (g.B.Begins.origin l.from)) l.floor l.end l.nodes.items l.log.sends;
+  flight : InFlight (flown (g.B.Begins.origin l.from)) l.floor l.end l.hold l.nodes.items l.log.sends;
   turn : IsTurn node_kind l.end l.ahead l.nodes.items l.turn;
 }
 

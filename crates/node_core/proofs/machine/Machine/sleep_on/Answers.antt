@@ -4,7 +4,7 @@ use Rattle.node_core.specs.Inside.{IsCalm}
 use Rattle.node_core.specs.Shown.{shown}
 use Rattle.node_core.specs.State.{NodeState}
 use Rattle.node_core.proofs.Clocks.{calm_of, lines_stay}
-use Rattle.node_core.proofs.Idling.{all_quiet, no_rows, passed_rested, sleeps}
+use Rattle.node_core.proofs.Idling.{all_quiet, no_rows, only_sleeps, passed_rested, sleeps}
 use Rattle.node_core.proofs.machine.Machine.sleep_on.Goals as goal
 
 pub returns-clause-rested : goal.returns-clause-rested
@@ -18,6 +18,7 @@ returns-clause-rested c =
     let board = c.leap_up_to.ensures.state ∙ ap (λ (t : ℕ). timers_leap t n c.args.self.now.bus.io.board) r.now in
     let wait : s.wait ≡ s.wait - n = omega (arith, r.free) in
     record {
+      only = only_sleeps c.args.cycle s (ap is_some r.going) n calm r.asleep (sleeps c.args.cycle n s r.free r.asleep r.none lines);
       quiet = all_quiet c.args.cycle s (ap is_some r.going) n calm (sleeps c.args.cycle n s r.free r.asleep r.none lines);
       state = (λ k. let u : NodeState = record s { wait = wait k; board = board k } in u)
           ∙ sym (passed_rested c.args.cycle s (ap is_some r.going) n calm (sleeps c.args.cycle n s r.free r.asleep r.none lines) n (omega arith));

@@ -1,10 +1,11 @@
 use Rattle.std.proofs.Common.{◌≡◌, ℕ, ◌+◌, ◌++◌, nat_lt, Bool, not, true, false, refl, sym, subst, ap, ◌∙◌, arith}
 use Rattle.std.specs.Prelude.{vec_len, vec_capacity}
 use Rattle.avr_base.specs.declared.interrupts.Lines.{Lines}
+use Rattle.board_io.specs.declared.clocked.ClockedBoard.{ClockedBoard}
 use Rattle.data_space.specs.declared.cpu.Core.{Core}
 use Rattle.data_space.specs.declared.cpu.Registers.{Registers}
 use Rattle.data_space.specs.Core.{whole}
-use Rattle.board_io.specs.Lagging.{IsClear}
+use Rattle.board_io.specs.Lagging.{IsUneventful}
 use Rattle.board_io.specs.Lines.{lines_of}
 use Rattle.node_core.specs.Cycle.{row}
 use Rattle.node_core.specs.declared.machine.Machine.{Machine}
@@ -32,7 +33,7 @@ loop-self-init c =
       turning = record {
         within = omega (arith, now, within);
         off = c.if-self.false;
-        clear = ap (λ (l : Lines). l.bits) (sym c.lines.ensures) ∙ c.if-lines-ne0.false;
+        clear = λ up. c.is_let_in.ensures c.if-is_let_in.false (ap (λ (k : Registers × Core). nat_lt k.1.sreg.bits 128) (sym c.parts.ensures) ∙ up);
         top = omega arith;
         runs = subst (λ (b : Bool). IsSprinting c.args.cycle m.bus.io.clock m (owing b (beside c.parts.result.0 c.parts.result.1 m))) (sym (none_owed m.count))
             (subst (λ (x : Machine). IsSprinting c.args.cycle m.bus.io.clock m x) parts (subst (λ (u : ℕ). IsSprinting c.args.cycle u m m) (sym now) first));
@@ -45,8 +46,8 @@ loop-self-2-init c = record {
   turning = c.loop-self.invariant.turning;
   slots = c.slots-slots.ensures;
   flag = c.loop-self.invariant.flag;
-  within = c.clear_to-bound.ensures.within;
-  ahead = c.clear_to-bound.ensures.clear;
+  within = c.calm_to-bound.ensures.within;
+  ahead = c.calm_to-bound.ensures.calm;
   on = omega arith;
 }
 
@@ -62,10 +63,10 @@ leap_within-requires-clause-early c =
     let l = c.loop-self-2 in
     let upto = l.invariant.within in omega (arith, upto, c.requires.early)
 
-pub leap_within-requires-clause-clear : goal.leap_within-requires-clause-clear
-leap_within-requires-clause-clear c =
+pub leap_within-requires-clause-calm : goal.leap_within-requires-clause-calm
+leap_within-requires-clause-calm c =
     let l = c.loop-self-2 in
-    subst (IsClear l.bound) (sym (c.in-Single.ensures.apart refl)) l.invariant.ahead
+    subst (IsUneventful l.bound) (sym (c.in-Single.ensures.apart refl)) l.invariant.ahead
 
 pub end_sprint-requires : goal.end_sprint-requires
 end_sprint-requires c =
@@ -108,11 +109,12 @@ loop-self-2-preserved-else-not-leap_within c =
     let last = l.invariant.on in
     record {
       turning = turned c.args.cycle c.args.end c.args.self.now self l.regs l.core l.owed_to h 1 s.regs s.core s.bus s.count false p c.requires.none c.leap_within.new.self (omega (arith, below, upto)) (e.idle refl) (e.state refl) (e.lines refl) (e.clock refl) l.owed_to
-          (let up = h.top in omega (arith, more, up)) (subst (λ (n : ℕ). nat_lt n l.owed_to ≡ false) (sym more) (not_owed self.count l.owed_to h.top));
+          (let up = h.top in omega (arith, more, up)) (subst (λ (n : ℕ). nat_lt n l.owed_to ≡ false) (sym more) (not_owed self.count l.owed_to h.top))
+          (λ up. ap (λ (x : ClockedBoard). (lines_of x.board).bits) (c.in-Single.ensures.apart refl) ∙ h.clear (sym (c.in-Single.ensures.flag refl) ∙ up));
       slots = l.invariant.slots;
       flag = l.invariant.flag ∙ sym (c.in-Single.ensures.flag refl);
       within = upto;
-      ahead = e.clear refl;
+      ahead = e.calm refl;
       on = omega (arith, last, moves);
     }
 
@@ -129,10 +131,10 @@ leap_within-requires-in-Plain-clause-early c =
     let l = c.loop-self-2 in
     let upto = l.invariant.within in omega (arith, upto, c.requires.early)
 
-pub leap_within-requires-in-Plain-clause-clear : goal.leap_within-requires-in-Plain-clause-clear
-leap_within-requires-in-Plain-clause-clear c =
+pub leap_within-requires-in-Plain-clause-calm : goal.leap_within-requires-in-Plain-clause-calm
+leap_within-requires-in-Plain-clause-calm c =
     let l = c.loop-self-2 in
-    subst (IsClear l.bound) (sym (c.in-Plain.ensures.apart refl)) l.invariant.ahead
+    subst (IsUneventful l.bound) (sym (c.in-Plain.ensures.apart refl)) l.invariant.ahead
 
 pub end_sprint-requires-then-not-leap_within-2 : goal.end_sprint-requires-then-not-leap_within-2
 end_sprint-requires-then-not-leap_within-2 c =
@@ -175,11 +177,12 @@ loop-self-2-preserved-else-not-leap_within-2 c =
     let last = l.invariant.on in
     record {
       turning = turned c.args.cycle c.args.end c.args.self.now self l.regs l.core l.owed_to h c.in-Plain.taken s.regs s.core s.bus s.count false p c.requires.none c.leap_within-in-Plain.new.self (omega (arith, below, upto)) (e.idle refl) (e.state refl) (e.lines refl) (e.clock refl) l.owed_to
-          (let up = h.top in omega (arith, more, up)) (subst (λ (n : ℕ). nat_lt n l.owed_to ≡ false) (sym more) (not_owed self.count l.owed_to h.top));
+          (let up = h.top in omega (arith, more, up)) (subst (λ (n : ℕ). nat_lt n l.owed_to ≡ false) (sym more) (not_owed self.count l.owed_to h.top))
+          (λ up. ap (λ (x : ClockedBoard). (lines_of x.board).bits) (c.in-Plain.ensures.apart refl) ∙ h.clear (sym (c.in-Plain.ensures.flag refl) ∙ up));
       slots = l.invariant.slots;
       flag = l.invariant.flag ∙ sym (c.in-Plain.ensures.flag refl);
       within = upto;
-      ahead = e.clear refl;
+      ahead = e.calm refl;
       on = omega (arith, last, moves);
     }
 
@@ -196,10 +199,10 @@ leap_within-requires-in-Jumped-clause-early c =
     let l = c.loop-self-2 in
     let upto = l.invariant.within in omega (arith, upto, c.requires.early)
 
-pub leap_within-requires-in-Jumped-clause-clear : goal.leap_within-requires-in-Jumped-clause-clear
-leap_within-requires-in-Jumped-clause-clear c =
+pub leap_within-requires-in-Jumped-clause-calm : goal.leap_within-requires-in-Jumped-clause-calm
+leap_within-requires-in-Jumped-clause-calm c =
     let l = c.loop-self-2 in
-    subst (IsClear l.bound) (sym (c.in-Jumped.ensures.apart refl)) l.invariant.ahead
+    subst (IsUneventful l.bound) (sym (c.in-Jumped.ensures.apart refl)) l.invariant.ahead
 
 pub end_sprint-requires-then-not-leap_within-3 : goal.end_sprint-requires-then-not-leap_within-3
 end_sprint-requires-then-not-leap_within-3 c =
@@ -242,11 +245,12 @@ loop-self-2-preserved-in-Jumped c =
     let last = l.invariant.on in
     record {
       turning = turned c.args.cycle c.args.end c.args.self.now self l.regs l.core l.owed_to h c.in-Jumped.taken s.regs s.core s.bus s.count false p c.requires.none c.leap_within-in-Jumped.new.self (omega (arith, below, upto)) (e.idle refl) (e.state refl) (e.lines refl) (e.clock refl) l.owed_to
-          (let up = h.top in omega (arith, more, up)) (subst (λ (n : ℕ). nat_lt n l.owed_to ≡ false) (sym more) (not_owed self.count l.owed_to h.top));
+          (let up = h.top in omega (arith, more, up)) (subst (λ (n : ℕ). nat_lt n l.owed_to ≡ false) (sym more) (not_owed self.count l.owed_to h.top))
+          (λ up. ap (λ (x : ClockedBoard). (lines_of x.board).bits) (c.in-Jumped.ensures.apart refl) ∙ h.clear (sym (c.in-Jumped.ensures.flag refl) ∙ up));
       slots = l.invariant.slots;
       flag = l.invariant.flag ∙ sym (c.in-Jumped.ensures.flag refl);
       within = upto;
-      ahead = e.clear refl;
+      ahead = e.calm refl;
       on = omega (arith, last, moves);
     }
 
@@ -261,7 +265,7 @@ leap_within-requires-in-Loaded-clause-some c =
 pub leap_within-requires-in-Loaded-clause-early : goal.leap_within-requires-in-Loaded-clause-early
 leap_within-requires-in-Loaded-clause-early c =
     let l = c.loop-self-2 in
-    let upto = c.clear_to-bound-in-Loaded.ensures.within in omega (arith, upto, c.requires.early)
+    let upto = c.clear_to-bound.ensures.within in omega (arith, upto, c.requires.early)
 
 pub end_sprint-requires-then-not-leap_within-4 : goal.end_sprint-requires-then-not-leap_within-4
 end_sprint-requires-then-not-leap_within-4 c =
@@ -287,7 +291,7 @@ loop-self-2-smaller-else-not-leap_within-4 c =
     let h = l.invariant.turning in let s = c.one_step.new in let m : Machine = turning self l.regs l.core l.owed_to in
     let p = c.in-Loaded.ensures.step m refl (acts c.args.cycle c.args.end c.args.self.now self l.regs l.core l.owed_to h c.requires.early c.requires.may.room) (still c.args.cycle c.args.end c.args.self.now self l.regs l.core l.owed_to h c.requires.untold) in
     let e = c.if-not-leap_within-4.ensures in
-    let upto = c.clear_to-bound-in-Loaded.ensures.within in let below = e.within refl in
+    let upto = c.clear_to-bound.ensures.within in let below = e.within refl in
     let moves = moved c.args.cycle c.args.end c.args.self.now self l.regs l.core l.owed_to h c.in-Loaded.taken s.regs s.core s.bus s.count false p c.requires.none c.leap_within-in-Loaded.new.self (omega (arith, below, upto)) (e.idle refl) (e.state refl) (e.lines refl) (e.clock refl) in
     let on = e.clock refl in omega (arith, moves, below, upto, on)
 
@@ -298,17 +302,18 @@ loop-self-2-preserved-else-not-leap_within-4 c =
     let h = l.invariant.turning in let s = c.one_step.new in let m : Machine = turning self l.regs l.core l.owed_to in
     let p = c.in-Loaded.ensures.step m refl (acts c.args.cycle c.args.end c.args.self.now self l.regs l.core l.owed_to h c.requires.early c.requires.may.room) (still c.args.cycle c.args.end c.args.self.now self l.regs l.core l.owed_to h c.requires.untold) in
     let e = c.if-not-leap_within-4.ensures in
-    let upto = c.clear_to-bound-in-Loaded.ensures.within in let below = e.within refl in
+    let upto = c.clear_to-bound.ensures.within in let below = e.within refl in
     let moves = moved c.args.cycle c.args.end c.args.self.now self l.regs l.core l.owed_to h c.in-Loaded.taken s.regs s.core s.bus s.count false p c.requires.none c.leap_within-in-Loaded.new.self (omega (arith, below, upto)) (e.idle refl) (e.state refl) (e.lines refl) (e.clock refl) in
     let more = p.count in
     let last = l.invariant.on in
     record {
       turning = turned c.args.cycle c.args.end c.args.self.now self l.regs l.core l.owed_to h c.in-Loaded.taken s.regs s.core s.bus s.count false p c.requires.none c.leap_within-in-Loaded.new.self (omega (arith, below, upto)) (e.idle refl) (e.state refl) (e.lines refl) (e.clock refl) l.owed_to
-          (let up = h.top in omega (arith, more, up)) (subst (λ (n : ℕ). nat_lt n l.owed_to ≡ false) (sym more) (not_owed self.count l.owed_to h.top));
+          (let up = h.top in omega (arith, more, up)) (subst (λ (n : ℕ). nat_lt n l.owed_to ≡ false) (sym more) (not_owed self.count l.owed_to h.top))
+          (λ up. c.clear_to-bound.ensures.down (let some = p.some in omega (arith, some, below)));
       slots = l.invariant.slots;
       flag = l.invariant.flag ∙ sym (c.in-Loaded.ensures.flag refl);
       within = upto;
-      ahead = e.clear refl;
+      ahead = e.calm refl;
       on = omega (arith, last, moves);
     }
 
@@ -366,11 +371,12 @@ loop-self-2-preserved-else-not-leap_within-5 c =
     let last = l.invariant.on in
     record {
       turning = turned c.args.cycle c.args.end c.args.self.now self l.regs l.core l.owed_to h c.in-Stored.taken s.regs s.core s.bus s.count false p c.requires.none c.leap_within-then-is_on.new.self (omega (arith, below, upto)) (e.idle refl) (e.state refl) (e.lines refl) (e.clock refl) l.owed_to
-          (let up = h.top in omega (arith, more, up)) (subst (λ (n : ℕ). nat_lt n l.owed_to ≡ false) (sym more) (not_owed self.count l.owed_to h.top));
+          (let up = h.top in omega (arith, more, up)) (subst (λ (n : ℕ). nat_lt n l.owed_to ≡ false) (sym more) (not_owed self.count l.owed_to h.top))
+          (λ up. c.clear_to-bound-in-Stored.ensures.down (let some = p.some in omega (arith, some, below)));
       slots = l.invariant.slots;
       flag = same_side l.flags l.core.sreg.bits s.core.sreg.bits c.is_on.result c.is_on-in-Stored.result l.invariant.flag c.is_on.ensures c.is_on-in-Stored.ensures c.if-is_on.true;
       within = upto;
-      ahead = e.clear refl;
+      ahead = e.calm refl;
       on = omega (arith, last, moves);
     }
 
@@ -438,11 +444,12 @@ loop-self-2-preserved-then-on c =
     let last = l.invariant.on in
     record {
       turning = turned c.args.cycle c.args.end c.args.self.now self l.regs l.core l.owed_to h c.in-Stored.taken s.regs s.core s.bus s.count (not c.is_on-on.result) p c.requires.none c.leap_within-else-is_on.new.self (omega (arith, below, upto)) (e.idle refl) (e.state refl) (e.lines refl) (e.clock refl) (s.count + 1)
-          (omega arith) (still_owed s.count ∙ ap not (sym c.if-on.true));
+          (omega arith) (still_owed s.count ∙ ap not (sym c.if-on.true))
+          (λ up. c.clear_to-bound-in-Stored.ensures.down (let some = p.some in omega (arith, some, below)));
       slots = l.invariant.slots;
       flag = refl;
       within = upto;
-      ahead = e.clear refl;
+      ahead = e.calm refl;
       on = omega (arith, last, moves);
     }
 
@@ -470,11 +477,12 @@ loop-self-2-preserved-else-on c =
     let last = l.invariant.on in
     record {
       turning = turned c.args.cycle c.args.end c.args.self.now self l.regs l.core l.owed_to h c.in-Stored.taken s.regs s.core s.bus s.count (not c.is_on-on.result) p c.requires.none c.leap_within-else-is_on.new.self (omega (arith, below, upto)) (e.idle refl) (e.state refl) (e.lines refl) (e.clock refl) l.owed_to
-          (let up = h.top in omega (arith, more, up)) (subst (λ (n : ℕ). nat_lt n l.owed_to ≡ false) (sym more) (not_owed self.count l.owed_to h.top) ∙ ap not (sym c.if-on.false));
+          (let up = h.top in omega (arith, more, up)) (subst (λ (n : ℕ). nat_lt n l.owed_to ≡ false) (sym more) (not_owed self.count l.owed_to h.top) ∙ ap not (sym c.if-on.false))
+          (λ up. c.clear_to-bound-in-Stored.ensures.down (let some = p.some in omega (arith, some, below)));
       slots = l.invariant.slots;
       flag = refl;
       within = upto;
-      ahead = e.clear refl;
+      ahead = e.calm refl;
       on = omega (arith, last, moves);
     }
 
@@ -542,11 +550,12 @@ loop-self-2-preserved c =
     let last = l.invariant.on in
     record {
       turning = turned c.args.cycle c.args.end c.args.self.now self l.regs l.core l.owed_to h c.in-Enabled.taken s.regs s.core s.bus s.count true p c.requires.none c.leap_within-in-Enabled.new.self (omega (arith, below, upto)) (e.idle refl) (e.state refl) (e.lines refl) (e.clock refl) (s.count + 1)
-          (omega arith) (still_owed s.count);
+          (omega arith) (still_owed s.count)
+          (λ up. c.clear_to-bound-in-Enabled.ensures.down (let some = p.some in omega (arith, some, below)));
       slots = l.invariant.slots;
       flag = refl;
       within = upto;
-      ahead = e.clear refl;
+      ahead = e.calm refl;
       on = omega (arith, last, moves);
     }
 
@@ -656,7 +665,8 @@ leap-requires-clause-may c =
     let moves = moved c.args.cycle c.args.end c.args.self.now self l.regs l.core l.owed_to h c.in-Jumped.taken s.regs s.core s.bus s.count false p c.requires.none c.leap_within-in-Jumped.new.self (omega (arith, below, upto)) (e.idle refl) (e.state refl) (e.lines refl) (e.clock refl) in
     let off : nat_lt s.count k ≡ false = subst (λ (n : ℕ). nat_lt n k ≡ false) (sym more) (not_owed self.count k h.top) in
     let next = turned c.args.cycle c.args.end c.args.self.now self l.regs l.core l.owed_to h c.in-Jumped.taken s.regs s.core s.bus s.count false p c.requires.none c.leap_within-in-Jumped.new.self (omega (arith, below, upto)) (e.idle refl) (e.state refl) (e.lines refl) (e.clock refl) k
-    (let up = h.top in omega (arith, more, up)) off in
+    (let up = h.top in omega (arith, more, up)) off
+    (λ up. ap (λ (x : ClockedBoard). (lines_of x.board).bits) (c.in-Jumped.ensures.apart refl) ∙ h.clear (sym (c.in-Jumped.ensures.flag refl) ∙ up)) in
     let g = c.gather-at-in-loop-self.ensures in
     let r : ℕ = c.gather-at-in-loop-self.result in
     let x : Machine = c.gather-at-in-loop-self.new.self in
@@ -679,7 +689,8 @@ leap-requires-clause-untold c i late =
     let moves = moved c.args.cycle c.args.end c.args.self.now self l.regs l.core l.owed_to h c.in-Jumped.taken s.regs s.core s.bus s.count false p c.requires.none c.leap_within-in-Jumped.new.self (omega (arith, below, upto)) (e.idle refl) (e.state refl) (e.lines refl) (e.clock refl) in
     let off : nat_lt s.count k ≡ false = subst (λ (n : ℕ). nat_lt n k ≡ false) (sym more) (not_owed self.count k h.top) in
     let next = turned c.args.cycle c.args.end c.args.self.now self l.regs l.core l.owed_to h c.in-Jumped.taken s.regs s.core s.bus s.count false p c.requires.none c.leap_within-in-Jumped.new.self (omega (arith, below, upto)) (e.idle refl) (e.state refl) (e.lines refl) (e.clock refl) k
-    (let up = h.top in omega (arith, more, up)) off in
+    (let up = h.top in omega (arith, more, up)) off
+    (λ up. ap (λ (x : ClockedBoard). (lines_of x.board).bits) (c.in-Jumped.ensures.apart refl) ∙ h.clear (sym (c.in-Jumped.ensures.flag refl) ∙ up)) in
     let g = c.gather-at-in-loop-self.ensures in
     let r : ℕ = c.gather-at-in-loop-self.result in
     let x : Machine = c.gather-at-in-loop-self.new.self in
@@ -702,7 +713,8 @@ leap-requires-clause-none c i late =
     let moves = moved c.args.cycle c.args.end c.args.self.now self l.regs l.core l.owed_to h c.in-Jumped.taken s.regs s.core s.bus s.count false p c.requires.none c.leap_within-in-Jumped.new.self (omega (arith, below, upto)) (e.idle refl) (e.state refl) (e.lines refl) (e.clock refl) in
     let off : nat_lt s.count k ≡ false = subst (λ (n : ℕ). nat_lt n k ≡ false) (sym more) (not_owed self.count k h.top) in
     let next = turned c.args.cycle c.args.end c.args.self.now self l.regs l.core l.owed_to h c.in-Jumped.taken s.regs s.core s.bus s.count false p c.requires.none c.leap_within-in-Jumped.new.self (omega (arith, below, upto)) (e.idle refl) (e.state refl) (e.lines refl) (e.clock refl) k
-    (let up = h.top in omega (arith, more, up)) off in
+    (let up = h.top in omega (arith, more, up)) off
+    (λ up. ap (λ (x : ClockedBoard). (lines_of x.board).bits) (c.in-Jumped.ensures.apart refl) ∙ h.clear (sym (c.in-Jumped.ensures.flag refl) ∙ up)) in
     let g = c.gather-at-in-loop-self.ensures in
     let r : ℕ = c.gather-at-in-loop-self.result in
     let x : Machine = c.gather-at-in-loop-self.new.self in
@@ -725,7 +737,8 @@ loop-self-smaller c =
     let moves = moved c.args.cycle c.args.end c.args.self.now self l.regs l.core l.owed_to h c.in-Jumped.taken s.regs s.core s.bus s.count false p c.requires.none c.leap_within-in-Jumped.new.self (omega (arith, below, upto)) (e.idle refl) (e.state refl) (e.lines refl) (e.clock refl) in
     let off : nat_lt s.count k ≡ false = subst (λ (n : ℕ). nat_lt n k ≡ false) (sym more) (not_owed self.count k h.top) in
     let next = turned c.args.cycle c.args.end c.args.self.now self l.regs l.core l.owed_to h c.in-Jumped.taken s.regs s.core s.bus s.count false p c.requires.none c.leap_within-in-Jumped.new.self (omega (arith, below, upto)) (e.idle refl) (e.state refl) (e.lines refl) (e.clock refl) k
-    (let up = h.top in omega (arith, more, up)) off in
+    (let up = h.top in omega (arith, more, up)) off
+    (λ up. ap (λ (x : ClockedBoard). (lines_of x.board).bits) (c.in-Jumped.ensures.apart refl) ∙ h.clear (sym (c.in-Jumped.ensures.flag refl) ∙ up)) in
     let g = c.gather-at-in-loop-self.ensures in
     let r : ℕ = c.gather-at-in-loop-self.result in
     let x : Machine = c.gather-at-in-loop-self.new.self in
@@ -752,7 +765,8 @@ loop-self-preserved c =
     let moves = moved c.args.cycle c.args.end c.args.self.now self l.regs l.core l.owed_to h c.in-Jumped.taken s.regs s.core s.bus s.count false p c.requires.none c.leap_within-in-Jumped.new.self (omega (arith, below, upto)) (e.idle refl) (e.state refl) (e.lines refl) (e.clock refl) in
     let off : nat_lt s.count k ≡ false = subst (λ (n : ℕ). nat_lt n k ≡ false) (sym more) (not_owed self.count k h.top) in
     let next = turned c.args.cycle c.args.end c.args.self.now self l.regs l.core l.owed_to h c.in-Jumped.taken s.regs s.core s.bus s.count false p c.requires.none c.leap_within-in-Jumped.new.self (omega (arith, below, upto)) (e.idle refl) (e.state refl) (e.lines refl) (e.clock refl) k
-    (let up = h.top in omega (arith, more, up)) off in
+    (let up = h.top in omega (arith, more, up)) off
+    (λ up. ap (λ (x : ClockedBoard). (lines_of x.board).bits) (c.in-Jumped.ensures.apart refl) ∙ h.clear (sym (c.in-Jumped.ensures.flag refl) ∙ up)) in
     let g = c.gather-at-in-loop-self.ensures in
     let r : ℕ = c.gather-at-in-loop-self.result in
     let x : Machine = c.gather-at-in-loop-self.new.self in
@@ -767,11 +781,14 @@ loop-self-preserved c =
     let k0 : Registers × Core = c.parts-in-loop-self.result in
     let parts : z ≡ owing (nat_lt z.count 0) (beside k0.0 k0.1 z) =
     λ j. let w : Machine = record z { cpu = (ap (λ (y : Registers × Core). whole y.0 y.1) (sym c.parts-in-loop-self.ensures)) j; owed = (owed ∙ sym (none_owed z.count)) j } in w in
+    let same : k0.1.sreg.bits ≡ s.core.sreg.bits =
+    ap (λ (y : Registers × Core). y.1.sreg.bits) c.parts-in-loop-self.ensures ∙ (ap (λ y. y.bits) q.flags ∙ ap (λ (w : Machine). w.cpu.sreg.bits) g.state) in
+    let lines = ap (λ (w : Lines). w.bits) q.lines ∙ ap (λ (w : Machine). (lines_of w.bus.io.board).bits) g.state in
     record {
       turning = record {
         within = omega (arith, there, up);
         off = owed;
-        clear = ap (λ (w : Lines). w.bits) q.lines ∙ (ap (λ (w : Machine). (lines_of w.bus.io.board).bits) g.state ∙ e.lines refl);
+        clear = λ on. lines ∙ next.clear (ap (λ (n : ℕ). nat_lt n 128) (sym same) ∙ on);
         top = omega arith;
         runs = subst (λ (w : Machine). IsSprinting t z.bus.io.clock old w) parts (subst (λ (u : ℕ). IsSprinting t u old z) (sym there) gone);
       };

@@ -1,7 +1,7 @@
 use Rattle.std.proofs.Common.{◌≡◌, ◌≤◌, ◌-◌, nat_lt}
 use Rattle.avr_program.specs.Program.{slots_below}
 use Rattle.node_core.specs.declared.machine.Machine.{Machine}
-use Rattle.board_io.specs.Lagging.{IsClear}
+use Rattle.board_io.specs.Lagging.{IsUneventful}
 use Rattle.node_core.specs.Pace.Midway.{IsTurning}
 use Rattle.node_core.proofs.machine.Machine.sprint_untold.Given as goal
 
@@ -35,7 +35,7 @@ invariant-loop-self-2 l = record {
   slots : l.slots ≡ slots_below 65536 l.initial.self.1.1.0.bytes;
   flag : nat_lt l.flags 128 ≡ nat_lt l.core.sreg.bits 128;
   within : l.bound ≤ l.end;
-  ahead : IsClear l.bound l.self.1.1.1.1.1.1.1.0.io;
+  ahead : IsUneventful l.bound l.self.1.1.1.1.1.1.1.0.io;
   on : l.initial.self.1.1.1.1.1.1.1.0.io.clock ≤ l.self.1.1.1.1.1.1.1.0.io.clock;
 }
 

@@ -25,3 +25,14 @@ unfolding script_byte
 returns-in-Many-clause-value c =
     let is : record { stretches = c.deref.result.now } ≡ c.args.self.now = cc in
     c.first_byte.ensures.value ∙ ap (λ (s : ScriptBytes). script_byte s c.args.cycle) is
+
+pub returns-in-InOrder-clause-value : goal.returns-in-InOrder-clause-value
+unfolding script_byte
+returns-in-InOrder-clause-value c =
+    let is : record { stretches = c.in-InOrder.stretches } ≡ c.args.self.now = cc in
+    c.byte_at-in-InOrder.ensures.value ∙ ap (λ (s : ScriptBytes). script_byte s c.args.cycle) is
+
+pub returns-in-InOrder-clause-law : goal.returns-in-InOrder-clause-law
+returns-in-InOrder-clause-law c =
+    let is : record { stretches = c.in-InOrder.stretches } ≡ c.args.self.now = cc in
+    subst (λ (s : ScriptBytes). Arrives s c.args.cycle c.byte_at-in-InOrder.result) is c.byte_at-in-InOrder.ensures.law

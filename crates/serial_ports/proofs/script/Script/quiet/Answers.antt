@@ -32,3 +32,15 @@ unfolding script_byte
 returns-in-Many-clause-first c =
     let is : c.args.self.now ≡ record { stretches = c.deref.result.now } = cc in
     λ l. ap (λ (s : ScriptBytes). is_some (script_byte s (c.args.cycle + c.quiet-in-Many.result))) is ∙ c.quiet-in-Many.ensures.first l
+
+pub returns-in-InOrder-clause-none : goal.returns-in-InOrder-clause-none
+unfolding script_byte
+returns-in-InOrder-clause-none c =
+    let is : c.args.self.now ≡ record { stretches = c.in-InOrder.stretches } = cc in
+    λ i l. ap (λ (s : ScriptBytes). script_byte s (c.args.cycle + i)) is ∙ c.quiet-in-InOrder.ensures.none i l
+
+pub returns-in-InOrder-clause-first : goal.returns-in-InOrder-clause-first
+unfolding script_byte
+returns-in-InOrder-clause-first c =
+    let is : c.args.self.now ≡ record { stretches = c.in-InOrder.stretches } = cc in
+    λ l. ap (λ (s : ScriptBytes). is_some (script_byte s (c.args.cycle + c.quiet-in-InOrder.result))) is ∙ c.quiet-in-InOrder.ensures.first l

@@ -1,0 +1,2 @@
+-- The lines that are still to come.
+pub mod Behind

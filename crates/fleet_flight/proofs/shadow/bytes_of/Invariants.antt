@@ -1,0 +1,10 @@
+use Rattle.std.proofs.Common.{◌≡◌, ℕ, ◌<◌, length}
+use Rattle.std.specs.Prelude.{slice_index, slice_index_or}
+use Rattle.fleet_flight.specs.Watched.{byte_of, no_place}
+use Rattle.fleet_flight.proofs.shadow.bytes_of.Given as goal
+
+abbrev pub invariant-loop-place : goal.invariant-loop-place
+invariant-loop-place l = record {
+  count : length l.bytes.items ≡ l.place-index;
+  each : (j : ℕ) → j < l.place-index → slice_index l.bytes.items j ≡ byte_of (slice_index_or l.places j no_place).spot l.node.state;
+}

@@ -1,0 +1,114 @@
+#!/usr/bin/env python3
+"""Tests what scripts/wrong_bodies.py makes of a crate, without the checker: which bodies, and how they are put into a copy.
+
+    scripts/test_wrong_bodies.py    exit status: 0 all is as it should be, 1 something is not
+"""
+import shutil
+import sys
+import tempfile
+import unittest
+from pathlib import Path
+
+sys.dont_write_bytecode = True
+import wrong_bodies as made  # noqa: E402 (it lies beside this file)
+
+SOURCE = """\
+// A crate.
+const MOST: u64 = 1_024;
+
+pub enum Kind {
+    Waits,
+    Tries,
+}
+
+impl Gate for Door {
+    /// Whether it is open.
+    fn is_open(&self, at: u64) -> bool
+        ensures { result ≡ true }
+    {
+        if self.open && at < MOST {
+            return true;
+        }
+        self.note(at);
+        self.count = at;
+        match at {
+            1 => self.halt(at),
+            _ => {}
+        }
+        false
+    }
+}
+
+fn drop(self) {
+    let Door { open: _ } = self;
+}
+
+fn step(door: &mut Door) {
+    door.is_open(
+        1,
+    );
+    wait(Kind::Waits);
+}
+"""
+
+
+class Bodies(unittest.TestCase):
+    def setUp(self):
+        self.crate = Path(tempfile.mkdtemp(prefix="bodies-")) / "door"
+        (self.crate / "src").mkdir(parents=True)
+        self.path = self.crate / "src" / "door.rt"
+        self.path.write_text(SOURCE, encoding="utf-8")
+        self.functions = made.functions_of(self.path, made.module_of(self.path, self.crate / "src"))
+        self.wrongs = list(made.wrong_bodies(self.functions, made.variants_of(self.crate / "src")))
+
+    def tearDown(self):
+        shutil.rmtree(self.crate.parent)
+
+    def of(self, what):
+        return [it for it in self.wrongs if it.what == what]
+
+    def put(self, wrong, follow=False):
+        tree = self.crate.parent / "copy"
+        shutil.rmtree(tree, ignore_errors=True)
+        shutil.copytree(self.crate, tree)
+        made.put(tree, self.crate, [wrong], follow)
+        return (tree / "src" / "door.rt").read_text(encoding="utf-8"), tree
+
+    def test_functions_have_the_checkers_names(self):
+        self.assertEqual([(it.name, it.result) for it in self.functions], [("door::DoorGate::is_open", "bool"), ("door::step", "")])
+
+    def test_each_kind_of_body_is_made(self):
+        kinds = {it.what for it in self.wrongs}
+        wanted = {"gives true at once", "gives false at once", "returns at once", "the test is turned", "&& is ||", "< is <=", "a call is left out",
+                  "an assignment is left out", "an arm is empty", "true is false", "false is true", "1 is 2", "Kind::Waits is Kind::Tries"}
+        self.assertEqual(wanted - kinds, set())
+
+    def test_a_body_changes_one_place(self):
+        text, _ = self.put(self.of("the test is turned")[0])
+        self.assertEqual(text, SOURCE.replace("if self.open && at < MOST {", "if !(self.open && at < MOST) {"))
+        text, _ = self.put(self.of("an arm is empty")[0])
+        self.assertEqual(text, SOURCE.replace("1 => self.halt(at),", "1 => {},"))
+
+    def test_a_call_of_several_lines_is_left_out_whole(self):
+        texts = [self.put(it)[0] for it in self.of("a call is left out")]
+        self.assertIn(SOURCE.replace("    door.is_open(\n        1,\n    );\n", ""), texts)
+
+    def test_a_constant_is_asked_of_its_users_and_followed_in_their_answers(self):
+        wrong = [it for it in made.wrong_constants(self.path, self.functions) if it.what == "MOST is 1"]
+        self.assertEqual([it.users for it in wrong], [["door::DoorGate::is_open"]])
+        answers = self.crate / "proofs" / "door" / "DoorGate" / "is_open"
+        answers.mkdir(parents=True)
+        (answers / "Answers.antt").write_text("few : min a 1024 ≡ c.1024x", encoding="utf-8")
+        text, tree = self.put(wrong[0], follow=True)
+        self.assertIn("const MOST: u64 = 1;", text)
+        self.assertEqual((tree / answers.relative_to(self.crate) / "Answers.antt").read_text(encoding="utf-8"), "few : min a 1 ≡ c.1024x")
+
+    def test_functions_that_call_one_another_are_tried_apart(self):
+        trial = made.Trial(None, self.crate, self.functions, 0)
+        taken, rest = trial.batch(self.wrongs)
+        self.assertEqual(len(taken), 1)
+        self.assertEqual(len(taken) + len(rest), len(self.wrongs))
+
+
+if __name__ == "__main__":
+    unittest.main()
