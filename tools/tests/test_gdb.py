@@ -2,6 +2,7 @@
 is compared with rows of the trace and with states, which other tests compare with the manual."""
 import contextlib
 import os
+import pathlib
 import random
 import re
 import shutil
@@ -12,17 +13,19 @@ import threading
 
 import pytest
 
-from support import LONG, LOOPBACK, TOP, TOOL, has_loopback
+from support import LONG, LOOPBACK, TOOL, TOP, has_loopback, needs_program
 from avrora_tools import cli
 from avrora_tools.debugging import history, packets, session, target
 
 PROGRAM = os.environ.get(cli.PROGRAM_VARIABLE)
-NEEDED = ("avr-gdb", "avr-gcc", "avr-objcopy")
+TOP_EXAMPLES = pathlib.Path(TOP) / "examples"
 
-needs_all = pytest.mark.skipif(
-    not PROGRAM or not all(map(shutil.which, NEEDED)),
-    reason="needs a program (AVRORA_PROGRAM), avr-gdb and avr-gcc (Debian's gdb-avr and gcc-avr)",
-)
+
+def needs_all(test):
+    """Skips a test without a program, avr-gdb or a compiler."""
+    for name, package in (("avr-gcc", "gcc-avr"), ("avr-objcopy", "binutils-avr"), ("avr-gdb", "gdb-avr")):
+        test = needs_program(name, package)(test)
+    return pytest.mark.skipif(not PROGRAM, reason="needs a program (AVRORA_PROGRAM)")(test)
 
 
 @pytest.fixture(scope="module")
@@ -44,9 +47,10 @@ def past(folder):
         yield found
 
 
-def gdb(folder, *commands, at=0, node=0):
+def gdb(folder, *commands, at=None, node=0, state=None):
     """What avr-gdb says to commands, over the tool by a pipe."""
-    remote = " ".join([*TOOL, "gdb", "--avrora", PROGRAM, "--at", str(at), "--node", str(node), "packet.toml"])
+    begins = [*(["--state", state] if state else []), *(["--at", str(at)] if at is not None else [])]
+    remote = " ".join([*TOOL, "gdb", "--avrora", PROGRAM, *begins, "--node", str(node), "packet.toml"])
     words = [
         "avr-gdb",
         "-nx",
@@ -321,6 +325,33 @@ def test_over_a_port_one_gdb_after_another(folder):
     finally:
         server.kill()
         server.communicate()
+
+
+@needs_all
+def test_the_hunt_of_the_document(folder, tmp_path):
+    """What docs/DEBUGGING.md shows: from a wrong byte at the sink back to the handler that came between."""
+    for name in ("alarm.c", "alarm.toml"):
+        shutil.copy(f"{TOP}/examples/races/{name}", tmp_path)
+    (tmp_path / "radio.h").write_text((TOP_EXAMPLES / "radio.h").read_text(), encoding="utf-8")
+    source = (tmp_path / "alarm.c").read_text(encoding="utf-8").replace("../radio.h", "radio.h")
+    (tmp_path / "alarm.c").write_text(source, encoding="utf-8")
+    words = ["avr-gcc", "-mmcu=atmega128", "-Os", "-gdwarf-2", "alarm.c", "-o", "packet.elf"]
+    subprocess.run(words, cwd=tmp_path, check=True)
+    words = ["avr-objcopy", "-j", ".text", "-j", ".data", "-O", "ihex", "packet.elf", "alarm.hex"]
+    subprocess.run(words, cwd=tmp_path, check=True)
+    moves = ["--input", "2:1=443_340..443_350", "--until", "660_000", "--compare", "lines", "-e", "packet.elf"]
+    words = [*TOOL, "sweep", "--avrora", PROGRAM, "alarm.toml", *moves, "--out", "packet.toml"]
+    done = subprocess.run(words, cwd=tmp_path, stdin=subprocess.DEVNULL, capture_output=True, check=False)
+    assert done.returncode == 1, done.stderr
+    state = "packet.toml.state"
+    said = gdb(tmp_path, "break put if c == 0", "continue", "monitor who", state=state)
+    assert "hit Breakpoint 1, put (c=0" in said
+    sent = re.search(r"00 that node 2 sent in cycle ([\d,]+): goto", said)[1].replace(",", "")
+    back = ["break alarm.c:25 thread 3", *["reverse-continue", "print kind", "print place"] * 2, "bt 2"]
+    said = gdb(tmp_path, *back, state=state, at=sent, node=2)
+    # main took place 1 with its reading, and so did the handler before it with its alarm
+    assert re.findall(r"^\$\d = (.*)$", said, re.M) == ["114 'r'", "1 '\\001'", "65 'A'", "1 '\\001'"]
+    assert re.search(r"#1 .* in __vector_18 \(\)", said)
 
 
 @needs_all
