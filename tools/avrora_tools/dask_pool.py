@@ -18,6 +18,7 @@ from avrora_tools.pools import Done, Event, Lost, Proved, SetAside, Worker
 GONE = "the scheduler of dask is gone"
 
 CONNECT_SECONDS = 60  # to a scheduler, which may be loaded
+RECONNECT_SECONDS = 10  # to one that answered before
 LOOK_SECONDS = 1.0  # between two looks at which workers the scheduler has
 PROOF_SECONDS = 600  # that a worker may take to prove itself, the way there too
 FETCH_SECONDS = 30  # that the answers of a batch may take from a worker
@@ -53,6 +54,7 @@ class DaskPool:
             self.client = distributed.Client(address, set_as_default=False, timeout=CONNECT_SECONDS)
         except (OSError, ValueError, TypeError) as fault:
             raise CannotWork(f"no scheduler of dask answers at {address}: {fault}") from None
+        self.client._timeout = RECONNECT_SECONDS
         try:
             # What a campaign of these results left that was killed goes.
             self.asked(self.take_away, prefix)

@@ -68,7 +68,7 @@ SICKNESSES = {
     "no ends": "is set aside: 3 runs failed on it one after another by no fault of theirs",
     "lie": "is set aside: it came to failed",
     "quiet lie": "is set aside: it came to passed, trace",
-    "hang": "is set aside: [0-9]+ runs came to no answer on it and to one elsewhere, [0-9]+ of them late",
+    "hang": "(is set aside: [0-9]+ runs came to no answer on it and to one elsewhere, [0-9]+ of them late|has had [0-9]+ runs for)",
     "memory": "is set aside: [0-9]+ runs came to no answer on it and to one elsewhere",
     "refuse": "is set aside: it came to refused",
     "image": "is set aside: its disk has [0-9a-f]{64}.hex otherwise than it was sent",
