@@ -1,5 +1,5 @@
-"""Searches by regular expressions of files. One may take for ever, and nothing within a process can end it: each is made in a
-process of its own, which is ended when it takes too long or too much memory."""
+"""Searches by regular expressions of files. One may take for ever, and nothing within a process can end it: each is
+made in a process of its own, which is ended when it takes too long or too much memory."""
 import os
 import re
 import resource
@@ -21,8 +21,8 @@ class TooLong(Exception):
 
 
 def has(expression: bytes, text: bytes | bytearray, seconds: float = SECONDS) -> bool:
-    """Whether a regular expression as Python has them, in which ^ and $ are the ends of lines, matches in a text. Raises TooLong
-    where that is not known in time. The expression is known to be one."""
+    """Whether a regular expression as Python has them, in which ^ and $ are the ends of lines, matches in a text.
+    Raises TooLong where that is not known in time. The expression is known to be one."""
     return has_each(expression, (text,), seconds)
 
 

@@ -30,8 +30,8 @@ NOT_OF_THE_FILE = (errno.EACCES, errno.EPERM, errno.EIO, errno.ENOMEM, errno.EMF
 
 @contextlib.contextmanager
 def readable(name: str) -> Iterator[None]:
-    """What opening or reading the file `name` raises in the block becomes BadInput, or CannotWork where it does not tell
-    of the file."""
+    """What opening or reading the file `name` raises in the block becomes BadInput, or CannotWork where it does not
+    tell of the file."""
     try:
         yield
     except (OSError, EOFError, zlib.error, ValueError) as fault:  # ValueError: a name with NUL, or one that is no text
@@ -41,8 +41,8 @@ def readable(name: str) -> Iterator[None]:
 
 @contextlib.contextmanager
 def opened(name: str) -> Iterator[BinaryIO]:
-    """The file `name`, unpacked where it ends in .gz, or the standard input, for reading bytes. Raises BadInput where it
-    cannot be opened; the block sees to what reading raises (`readable`)."""
+    """The file `name`, unpacked where it ends in .gz, or the standard input, for reading bytes. Raises BadInput where
+    it cannot be opened; the block sees to what reading raises (`readable`)."""
     if name == STANDARD_STREAM:
         yield sys.stdin.buffer
         return
@@ -54,8 +54,8 @@ def opened(name: str) -> Iterator[BinaryIO]:
 
 @contextlib.contextmanager
 def opened_named(name: str) -> Iterator[BinaryIO]:
-    """A file that another file names, and not the user, as `opened` has it. Raises BadInput also where it is a device or a
-    pipe, which may have no end; it is not waited for."""
+    """A file that another file names, and not the user, as `opened` has it. Raises BadInput also where it is a device
+    or a pipe, which may have no end; it is not waited for."""
     with readable(name):
         file: BinaryIO = open(name, "rb", opener=without_waiting)
     with file:

@@ -1,4 +1,5 @@
-"""Works done in processes of this program's own, some at a time: one that takes too long is ended, with all that it started."""
+"""Works done in processes of this program's own, some at a time: one that takes too long is ended, with all that it
+started."""
 import contextlib
 import os
 import pickle
@@ -110,8 +111,8 @@ def be_task(work: Callable[[], Any], target: int, at_end: Callable[[], None]) ->
 def in_order(
     works: Sequence[Callable[[], Answer]], jobs: int, seconds: float | None, at_end: Callable[[], None]
 ) -> Iterator[Task[Answer]]:
-    """The tasks that did the works, in their order, each when it is over. So many run at a time, and each may take so many
-    seconds. One that is ended before calls `at_end`, in its process."""
+    """The tasks that did the works, in their order, each when it is over. So many run at a time, and each may take so
+    many seconds. One that is ended before calls `at_end`, in its process."""
     tasks: list[Task[Answer]] = []
     try:
         for number in range(len(works)):

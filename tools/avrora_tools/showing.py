@@ -1,8 +1,8 @@
 """Text that came from a file, as a terminal, XML, HTML and VCD may be given it.
 
-Whatever such a text has in it, what is shown moves no cursor, begins no line, turns no direction of writing, hides nothing
-and ends no element. Each function takes any text of Python's, also one with surrogates: bytes that are no UTF-8, or halves
-of characters.
+Whatever such a text has in it, what is shown moves no cursor, begins no line, turns no direction of writing, hides
+nothing and ends no element. Each function takes any text of Python's, also one with surrogates: bytes that are no
+UTF-8, or halves of characters.
 """
 import html
 import json
@@ -22,8 +22,9 @@ def shown(name: str) -> str:
 
 
 def printable(text: str) -> str:
-    """A text on one line, for a terminal or a log. What is no letter, mark, digit, sign or plain space is told by its number:
-    controls, line breaks, marks of direction, characters that do not show, bytes that are no UTF-8 (`\\xff`)."""
+    """A text on one line, for a terminal or a log. What is no letter, mark, digit, sign or plain space is told by its
+    number: controls, line breaks, marks of direction, characters that do not show, bytes that are no UTF-8
+    (`\\xff`)."""
     if not text.isprintable():
         text = "".join(character if character.isprintable() else escaped(character) for character in decoded(text))
     return text
@@ -55,7 +56,8 @@ def markup(text: str) -> str:
 
 
 def script_data(value: object) -> str:
-    """A value in JSON that a script element of HTML may have in it: no text of it ends the element, or begins a comment."""
+    """A value in JSON that a script element of HTML may have in it: no text of it ends the element, or begins a
+    comment."""
     text = json.dumps(value, separators=(",", ":"))
     return re.sub("[<>&]", lambda match: f"\\u{ord(match[0]):04x}", text)
 

@@ -1,8 +1,8 @@
 """Writing files: whole or not at all, in folders that are held open, and along no link.
 
 A repository of a stranger may have a link where a tool writes. A file is written beside, and renamed once all of it is
-written. A link in its place is refused, and so is one on the way there. Those alone are followed that lie in a folder of the
-system, where no repository lies.
+written. A link in its place is refused, and so is one on the way there. Those alone are followed that lie in a folder
+of the system, where no repository lies.
 """
 import contextlib
 import errno
@@ -57,8 +57,8 @@ class Folder:
         return cls.named(os.path.dirname(within) or ".")
 
     def below(self, path: str, make: bool = False) -> "Folder":
-        """The folder of this relative name in this one, which stays open. Raises BadInput where the name leads out of it, by
-        `..`, by `/` or by a link."""
+        """The folder of this relative name in this one, which stays open. Raises BadInput where the name leads out of
+        it, by `..`, by `/` or by a link."""
         parts = path.split("/")
         if path.startswith("/") or ".." in parts or "\0" in path:
             raise BadInput(f"{shown(path)}: it leads out of {shown(self.path or '.')}")
@@ -92,14 +92,16 @@ class Folder:
         return os.path.join(self.path, name)
 
     def path_within(self, name: str) -> str:
-        """The path of a file for what takes no descriptor of a folder, such as SQLite. It is good in this process, while
-        the folder is open; `is_file` says before whether there is a link."""
+        """The path of a file for what takes no descriptor of a folder, such as SQLite. It is good in this process,
+        while the folder is open; `is_file` says before whether there is a link."""
         return f"/proc/self/fd/{self.descriptor}/{plain(name)}"
 
     def __enter__(self) -> "Folder":
         return self
 
-    def __exit__(self, kind: type[BaseException] | None, fault: BaseException | None, trace: TracebackType | None) -> None:
+    def __exit__(
+        self, kind: type[BaseException] | None, fault: BaseException | None, trace: TracebackType | None
+    ) -> None:
         self.close()
 
     def close(self) -> None:
@@ -138,9 +140,9 @@ class Folder:
 
     @contextlib.contextmanager
     def file(self, name: str, binary: bool = False, lasting: bool = True) -> Iterator[IO[Any]]:
-        """A file to write to, which becomes `name` only once all is written. A `lasting` one is on the disk then, so that
-        the name has all its content also where the machine loses its power. Raises BadInput where a link is there, or what
-        is no file."""
+        """A file to write to, which becomes `name` only once all is written. A `lasting` one is on the disk then, so
+        that the name has all its content also where the machine loses its power. Raises BadInput where a link is there,
+        or what is no file."""
         path = self.path_of(plain(name))
         found = self.status(name)
         self.refuse_link(name)
@@ -172,11 +174,12 @@ class Folder:
             file.write(content)
 
     def lock_file(self, name: str) -> int:
-        """The descriptor of a file to lock, which is made where it is not there, and never cut. Raises BadInput where a link is
-        there, or what is no file."""
+        """The descriptor of a file to lock, which is made where it is not there, and never cut. Raises BadInput where a
+        link is there, or what is no file."""
         with renamed(self.path_of(name)):
             try:
-                locked = os.open(plain(name), os.O_RDWR | os.O_CREAT | os.O_NONBLOCK | NO_LINK, 0o666, dir_fd=self.descriptor)
+                flags = os.O_RDWR | os.O_CREAT | os.O_NONBLOCK | NO_LINK
+                locked = os.open(plain(name), flags, 0o666, dir_fd=self.descriptor)
             except OSError:
                 self.is_file(name)
                 raise
@@ -249,8 +252,9 @@ def own_stream(path: str) -> int | None:
 
 @contextlib.contextmanager
 def whole_file(path: str, binary: bool = False, lasting: bool = True) -> Iterator[IO[Any]]:
-    """A file that the user named, to write to, which becomes `path` only once all is written (`Folder.file`). A device or a
-    pipe is written to as it comes, and stays what it is; so is an open file of this process, by names such as /dev/stdout."""
+    """A file that the user named, to write to, which becomes `path` only once all is written (`Folder.file`). A device
+    or a pipe is written to as it comes, and stays what it is; so is an open file of this process, by names such as
+    /dev/stdout."""
     number = own_stream(path)
     if number is not None:
         with renamed(path):
@@ -288,8 +292,8 @@ def opened_as_it_is(folder: Folder, name: str, path: str) -> int:
 
 
 def write_whole(path: str, content: str | bytes, lasting: bool = True) -> None:
-    """Writes a text, or bytes, to the file `path` that the user named, whole or not at all; to the standard output where that
-    is `-`."""
+    """Writes a text, or bytes, to the file `path` that the user named, whole or not at all; to the standard output
+    where that is `-`."""
     if path == STANDARD_STREAM:
         if isinstance(content, bytes):
             sys.stdout.flush()

@@ -1,9 +1,10 @@
 #!/usr/bin/env python3
-"""Runs the tools on repositories of a stranger (`repositories.py`), and looks for what must not come of them: anything changed
-in the victim's home or beside it, code run, a secret told, a control shown, a traceback, a tool that does not end, a verdict
-of a file that the stranger wrote.
+"""Runs the tools on repositories of a stranger (`repositories.py`), and looks for what must not come of them: anything
+changed in the victim's home or beside it, code run, a secret told, a control shown, a traceback, a tool that does not
+end, a verdict of a file that the stranger wrote.
 
-    tools/tests/fuzz_repositories.py [COUNT] [SEED] [FIRST]    the repositories from number FIRST (else 0) on and below COUNT
+    tools/tests/fuzz_repositories.py [COUNT] [SEED] [FIRST]    the repositories from number FIRST (else 0) on and below
+    COUNT
                                                               (else 10,000); the same SEED (1) makes the same ones
 
 Exit status: 0 nothing was found, 1 something was; each finding is told with the number of its repository.
@@ -46,19 +47,39 @@ SECONDS = 60  # that no call takes, on a busy machine
 
 # What is called, in the repository or from elsewhere: @ is the repository.
 CALLS = [
-    "expect @a.expect", "expect --junit @junit.xml @a.expect", "expect --save @a.expect", "expect --trace @net.trace @a.expect",
-    "expect --jobs 2 --timeout 60 @a.expect @a.expect", "why @net.toml", "timeline -s @net.toml -o @out.html @net.trace",
-    "timeline --svg -o @out.svg @net.trace", "timeline --svg -o @out/a.svg @net.trace", "vcd -s @net.toml @net.trace", "annotate -e @relay.elf @relay.trace",
-    "profile --callers --lines --coverage --force -e @relay.elf @relay.trace", "profile -s @relay.toml -e @relay.elf @relay.trace",
-    "vcd -s @relay.toml --force -e 0=@relay.elf @relay.trace", "inspect -g * -e @relay.elf @net.state", "links --map @out.svg @net.toml @net.trace",
-    "console @net.trace", "diff -e @relay.elf @net.trace @relay.trace", "mknet --places @build line a.hex*3", "window @net.toml 0 100",
+    "expect @a.expect",
+    "expect --junit @junit.xml @a.expect",
+    "expect --save @a.expect",
+    "expect --trace @net.trace @a.expect",
+    "expect --jobs 2 --timeout 60 @a.expect @a.expect",
+    "why @net.toml",
+    "timeline -s @net.toml -o @out.html @net.trace",
+    "timeline --svg -o @out.svg @net.trace",
+    "timeline --svg -o @out/a.svg @net.trace",
+    "vcd -s @net.toml @net.trace",
+    "annotate -e @relay.elf @relay.trace",
+    "profile --callers --lines --coverage --force -e @relay.elf @relay.trace",
+    "profile -s @relay.toml -e @relay.elf @relay.trace",
+    "vcd -s @relay.toml --force -e 0=@relay.elf @relay.trace",
+    "inspect -g * -e @relay.elf @net.state",
+    "links --map @out.svg @net.toml @net.trace",
+    "console @net.trace",
+    "diff -e @relay.elf @net.trace @relay.trace",
+    "mknet --places @build line a.hex*3",
+    "window @net.toml 0 100",
     "sweep --latency 0-1=20..22 --until 5000 --compare bytes --out @out @net.toml",
-]  # fmt: skip
+]
 CAMPAIGNS = [
-    "campaign --report @c.campaign", "campaign --list @c.campaign", "campaign --report @c.results/results.sqlite", "campaign --jobs 1 @c.campaign",
-    "campaign --report --json @out --junit @out.xml @c.campaign", "campaign --jobs 1 --results @out @c.campaign", "campaign --report --results @res @c.campaign",
-    "campaign --scenario net @c.campaign", "campaign --jobs 1 --anew @c.campaign",
-]  # fmt: skip
+    "campaign --report @c.campaign",
+    "campaign --list @c.campaign",
+    "campaign --report @c.results/results.sqlite",
+    "campaign --jobs 1 @c.campaign",
+    "campaign --report --json @out --junit @out.xml @c.campaign",
+    "campaign --jobs 1 --results @out @c.campaign",
+    "campaign --report --results @res @c.campaign",
+    "campaign --scenario net @c.campaign",
+    "campaign --jobs 1 --anew @c.campaign",
+]
 
 STATE = "avrora state 1\ncycle 262144\ncore 0 {}\ntimers 0 {}\nports 0 {}\nio 0 {}\nsram 0 {}\nend\n".format(
     " ".join("0" * 41), " ".join("0" * 38), " ".join("0" * 29), "0" * 448, "0" * 8192
@@ -69,7 +90,15 @@ def words_of(world):
     """The words of a call, and the folder in which it is made."""
     draw = world.draw
     text = draw.choice(CAMPAIGNS if world.has_campaign and draw.random() < 0.7 else CALLS)
-    folder, at = draw.choice([(world.repo, ""), (world.repo, f"{world.repo}/"), (world.repo, "./"), (world.place, "repo/"), ("/", f"{world.repo}/")])
+    folder, at = draw.choice(
+        [
+            (world.repo, ""),
+            (world.repo, f"{world.repo}/"),
+            (world.repo, "./"),
+            (world.place, "repo/"),
+            ("/", f"{world.repo}/"),
+        ]
+    )
     return folder, [word.replace("@", at) for word in text.split()]
 
 
@@ -101,9 +130,13 @@ def be(world, folder, words, out, errors):
                 os.dup2(file.fileno(), number)
         sys.stdin, sys.stdout, sys.stderr = open(0), open(1, "w"), open(2, "w")
         os.environ.update(
-            HOME=world.home, XDG_STATE_HOME=f"{world.place}/state", TMPDIR=f"{world.place}/tmp", AVRORA=f"{world.place}/avrora",
-            AVRORA_PROGRAM=f"{world.place}/avrora", PATH=f".:{os.environ['PATH']}",
-        )  # fmt: skip
+            HOME=world.home,
+            XDG_STATE_HOME=f"{world.place}/state",
+            TMPDIR=f"{world.place}/tmp",
+            AVRORA=f"{world.place}/avrora",
+            AVRORA_PROGRAM=f"{world.place}/avrora",
+            PATH=f".:{os.environ['PATH']}",
+        )
         tempfile.tempdir = None
         main.main(words)
     finally:
@@ -117,7 +150,11 @@ def faults(world, words, status, out, errors):
     if b"Traceback" in errors or b"a fault of this tool" in errors:
         yield f"a fault of the tool: {errors[-300:]!r}"
     if world.seen()[0] != world.before[0]:
-        changed = {path for path in {*world.before[0], *world.seen()[0]} if world.before[0].get(path) != world.seen()[0].get(path)}
+        changed = {
+            path
+            for path in {*world.before[0], *world.seen()[0]}
+            if world.before[0].get(path) != world.seen()[0].get(path)
+        }
         yield f"it changed {sorted(changed)}"
     beside = set(os.listdir(world.place)) - {*world.before[1], "avrora"}
     if beside:

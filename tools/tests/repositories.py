@@ -14,14 +14,59 @@ TOKEN = "hunter2"  # of each secret; no tool tells it
 
 # Names that mean something to a terminal, a log, a shell, XML, HTML, a dump, a file system.
 NAMES = [
-    "a", "b", "deep/a", "\x1b[31m", "\x1b]0;x\x07", "a\nb", "a\r\n#9", "\u202eexe", "\u2066", "\u2028", "\udcff", "-x", "--save", "@opts",
-    "<!--<script>", "</script>", "]]>", '"', "'", "$(touch ran)", "`id`", "%s%n", "~", "..a", "$end", "::error::x", "n" * 200, "ä", "\u200b",
-]  # fmt: skip
+    "a",
+    "b",
+    "deep/a",
+    "\x1b[31m",
+    "\x1b]0;x\x07",
+    "a\nb",
+    "a\r\n#9",
+    "\u202eexe",
+    "\u2066",
+    "\u2028",
+    "\udcff",
+    "-x",
+    "--save",
+    "@opts",
+    "<!--<script>",
+    "</script>",
+    "]]>",
+    '"',
+    "'",
+    "$(touch ran)",
+    "`id`",
+    "%s%n",
+    "~",
+    "..a",
+    "$end",
+    "::error::x",
+    "n" * 200,
+    "ä",
+    "\u200b",
+]
 
 # Programs and modules that a careless tool would run from the folder in which it stands.
-SPIES = ["avrora", "python3", "sh", "env", "avr-gcc", "tomllib.py", "tomlkit.py", "json.py", "sitecustomize.py", "conftest.py", "avrora_tools.py"]
+SPIES = [
+    "avrora",
+    "python3",
+    "sh",
+    "env",
+    "avr-gcc",
+    "tomllib.py",
+    "tomlkit.py",
+    "json.py",
+    "sitecustomize.py",
+    "conftest.py",
+    "avrora_tools.py",
+]
 
-HOME = {".bashrc": "# mine\n", ".ssh/authorized_keys": f"ssh-rsa {TOKEN}\n", ".netrc": f"password {TOKEN}\n", "work/a.c": "int a;\n", "work/runs/a": "mine\n"}
+HOME = {
+    ".bashrc": "# mine\n",
+    ".ssh/authorized_keys": f"ssh-rsa {TOKEN}\n",
+    ".netrc": f"password {TOKEN}\n",
+    "work/a.c": "int a;\n",
+    "work/runs/a": "mine\n",
+}
 
 SUPER = "d9d505f920a163d7"
 
@@ -44,21 +89,31 @@ class World:
     # ---- the home
 
     def seen(self):
-        """All of the home: of each file its kind, mode, owner, times, links and content; and the names of what is beside it."""
+        """All of the home: of each file its kind, mode, owner, times, links and content; and the names of what is
+        beside it."""
         found = {}
         for folder, folders, names in os.walk(self.home):
             for path in (f"{folder}/{name}" for name in ("", *folders, *names)):
                 told = os.lstat(path)
                 content = open(path, "rb").read() if stat.S_ISREG(told.st_mode) else None
                 # Of a file that the repository has a name of too, that name may go.
-                changed = None if stat.S_ISREG(told.st_mode) and path in self.shared else (told.st_ctime_ns, told.st_nlink)
+                changed = (
+                    None if stat.S_ISREG(told.st_mode) and path in self.shared else (told.st_ctime_ns, told.st_nlink)
+                )
                 found[path] = told.st_mode, told.st_ino, told.st_uid, told.st_size, told.st_mtime_ns, changed, content
         return found, sorted(os.listdir(self.place))
 
     def targets(self):
         """Where a link may lead: what the victim has, what he has not, and other places."""
         names = [*HOME, ".profile", "work", "work/runs", "new/deep", ""]
-        ways = [f"{self.home}/{self.draw.choice(names)}", f"{self.upwards()}home/{self.draw.choice(names)}", "/dev/zero", "/dev/stdin", "loop", "."]
+        ways = [
+            f"{self.home}/{self.draw.choice(names)}",
+            f"{self.upwards()}home/{self.draw.choice(names)}",
+            "/dev/zero",
+            "/dev/stdin",
+            "loop",
+            ".",
+        ]
         return self.draw.choice(ways)
 
     def upwards(self):
@@ -78,7 +133,9 @@ class World:
         if os.path.lexists(path):
             return
         os.makedirs(os.path.dirname(path), exist_ok=True)
-        kind = self.draw.choice(["link", "link", "link", "hard", "pipe", "folder", "garbage", "device", "mode", "empty"])
+        kind = self.draw.choice(
+            ["link", "link", "link", "hard", "pipe", "folder", "garbage", "device", "mode", "empty"]
+        )
         if kind == "link":
             os.symlink(self.targets(), path)
         elif kind == "hard":
@@ -112,7 +169,9 @@ class World:
         else:
             self.odd(image)
         self.write(f"{self.repo}/net.toml", self.scenario(image))
-        self.write(f"{self.repo}/net.trace", "20 0 sent AA\n29 1 heard 1 AA 0\n5000 0 end 10 running\n5000 1 end 10 running\n")
+        self.write(
+            f"{self.repo}/net.trace", "20 0 sent AA\n29 1 heard 1 AA 0\n5000 0 end 10 running\n5000 1 end 10 running\n"
+        )
         self.write(f"{self.repo}/a.expect", self.case())
         self.elf()
         for name in ("out.html", "out.svg", "out.xml", "out", "junit.xml", "golden.rows", "build"):
@@ -126,16 +185,55 @@ class World:
         key = quoted(self.name()) + " = 1\n" if draw.random() < 0.1 else ""
         version = "" if draw.random() < 0.1 else "version = 3\n"
         return (
-            f"{version}cycles = 5_000\nlatency = 20\n{key}[[node]]\nimage = {quoted(image)}\n[[node]]\nimage = {quoted(image)}\n"
+            f"{version}cycles = 5_000\nlatency = 20\n{key}"
+            f"[[node]]\nimage = {quoted(image)}\n[[node]]\nimage = {quoted(image)}\n"
             "[[link]]\nfrom = 0\nto = 1\n"
         )
 
     def case(self):
         draw = self.draw
-        place = draw.choice([f"{self.home}/.netrc", "../home/.netrc", "golden.rows", "out", "../home/new.rows", f"{self.home}/.bashrc", "deep/golden.rows", "/dev/zero"])
-        source = draw.choice(["run net.toml", "run net.toml", "trace net.trace", "trace net.trace", "trace net.trace", f"trace {place}", f"run {place}", f"node {place} 100", "trace relay.trace"])
+        place = draw.choice(
+            [
+                f"{self.home}/.netrc",
+                "../home/.netrc",
+                "golden.rows",
+                "out",
+                "../home/new.rows",
+                f"{self.home}/.bashrc",
+                "deep/golden.rows",
+                "/dev/zero",
+            ]
+        )
+        source = draw.choice(
+            [
+                "run net.toml",
+                "run net.toml",
+                "trace net.trace",
+                "trace net.trace",
+                "trace net.trace",
+                f"trace {place}",
+                f"run {place}",
+                f"node {place} 100",
+                "trace relay.trace",
+            ]
+        )
         lines = [source]
-        lines += draw.sample([f"golden {place}", f"golden {place}", "* 0 sent AA", "* 0 sent AA", "never * * stop *", "text 4 'relay'", r"text 4 'a\x1b[31m'", "text 0 matches 'a\u202e'", "count == 9: * 0 sent *", "\x1b[31m", f"{self.name()}"], 2)
+        lines += draw.sample(
+            [
+                f"golden {place}",
+                f"golden {place}",
+                "* 0 sent AA",
+                "* 0 sent AA",
+                "never * * stop *",
+                "text 4 'relay'",
+                r"text 4 'a\x1b[31m'",
+                "text 0 matches 'a\u202e'",
+                "count == 9: * 0 sent *",
+                "\x1b[31m",
+                f"{self.name()}",
+            ],
+            2,
+        )
         return "\n".join(lines) + "\n"
 
     def elf(self):
@@ -143,7 +241,12 @@ class World:
         with open(f"{DATA}/relay.elf", "rb") as file:
             content = bytearray(file.read())
         for old in (b"transfer\0", b"relay.c\0", b"main\0"):
-            new = self.draw.choice([b"\x1b[2J\n#9x", b"\x9b\x07\xe2\x80\xae\n#", b"<!--%s\r\n", b"\xff\xfe\n\0\0\0\0\0"])[: len(old) - 1].ljust(len(old) - 1, b"x") + b"\0"
+            new = (
+                self.draw.choice([b"\x1b[2J\n#9x", b"\x9b\x07\xe2\x80\xae\n#", b"<!--%s\r\n", b"\xff\xfe\n\0\0\0\0\0"])[
+                    : len(old) - 1
+                ].ljust(len(old) - 1, b"x")
+                + b"\0"
+            )
             content = content.replace(old, new)
         for _ in range(self.draw.choice([0, 0, 3, 30])):
             content[self.draw.randrange(64, len(content))] = self.draw.randrange(256)
@@ -154,7 +257,25 @@ class World:
     def campaign(self, image):
         draw = self.draw
         self.has_campaign = True
-        results = draw.choice([None, None, None, None, None, "res", "res", "res", "../home", "../home/work", f"{self.home}/work", "deep/../../home", "out", "runs/..", "."])
+        results = draw.choice(
+            [
+                None,
+                None,
+                None,
+                None,
+                None,
+                "res",
+                "res",
+                "res",
+                "../home",
+                "../home/work",
+                f"{self.home}/work",
+                "deep/../../home",
+                "out",
+                "runs/..",
+                ".",
+            ]
+        )
         lines = [f"results = {quoted(results)}"] if results else []
         lines += [f"name = {quoted(self.name())}"] if draw.random() < 0.1 else []
         lines += ["attempts = 1", 'traces = "all"', "[[run]]", 'scenario = "net.toml"', 'expect = "b.expect"']
@@ -162,7 +283,10 @@ class World:
             lines += [f"name = {quoted(self.name())}"]
         if draw.random() < 0.2:
             lines[lines.index('scenario = "net.toml"')] = f'draw = "{draw.choice(["draw.py", "../repo/draw.py"])}"'
-            self.write(f"{self.repo}/draw.py", f"open({self.ran!r} + '/draw', 'w').close()\ndef draw(number):\n    return {{}}\n")
+            self.write(
+                f"{self.repo}/draw.py",
+                f"open({self.ran!r} + '/draw', 'w').close()\ndef draw(number):\n    return {{}}\n",
+            )
             lines += ["vary = { number = [1, 2] }"]
         else:
             lines += ["[run.vary]", f"latency = [20, {draw.choice(['21', '22'])}]"]
@@ -176,7 +300,19 @@ class World:
         if draw.random() < 0.1:
             self.odd(folder)
             return
-        for name in ("summary.txt", "summary.jsonl", "junit.xml", ".lock", "runs", "results.sqlite-journal", "results.sqlite-wal", "results.sqlite-shm", "runs/net,latency=20.toml", "runs/net,latency=20.trace.gz", "log"):
+        for name in (
+            "summary.txt",
+            "summary.jsonl",
+            "junit.xml",
+            ".lock",
+            "runs",
+            "results.sqlite-journal",
+            "results.sqlite-wal",
+            "results.sqlite-shm",
+            "runs/net,latency=20.toml",
+            "runs/net,latency=20.trace.gz",
+            "log",
+        ):
             if draw.random() < 0.25:
                 try:
                     self.odd(f"{folder}/{name}")
@@ -214,17 +350,35 @@ class World:
             columns = [row[1] for row in database.execute("PRAGMA table_info(run)")]
             types = {row[1]: row[2] for row in database.execute("PRAGMA table_info(run)")}
             for number in range(2):
-                known = {"number": number, "name": draw.choice([f"net latency={20 + number}", self.name()]), "outcome": "passed", "parameters": "{}", "message": self.name()}
-                values = [known.get(name, b"\0" * 32 if types[name] == "BLOB" else 1 if types[name] != "TEXT" else "{}") for name in columns]
-                values = [value.encode("utf-8", "surrogateescape") if isinstance(value, str) and "\udcff" in value else value for value in values]
-                database.execute(f"INSERT OR IGNORE INTO run ({', '.join(columns)}) VALUES ({', '.join('?' * len(columns))})", values)
-            database.execute("INSERT OR REPLACE INTO about (key, value) VALUES ('total', '2'), ('name', ?)", (draw.choice(["c", "\x1b[31m"]),))
+                known = {
+                    "number": number,
+                    "name": draw.choice([f"net latency={20 + number}", self.name()]),
+                    "outcome": "passed",
+                    "parameters": "{}",
+                    "message": self.name(),
+                }
+                values = [
+                    known.get(name, b"\0" * 32 if types[name] == "BLOB" else 1 if types[name] != "TEXT" else "{}")
+                    for name in columns
+                ]
+                values = [
+                    value.encode("utf-8", "surrogateescape") if isinstance(value, str) and "\udcff" in value else value
+                    for value in values
+                ]
+                database.execute(
+                    f"INSERT OR IGNORE INTO run ({', '.join(columns)}) VALUES ({', '.join('?' * len(columns))})", values
+                )
+            database.execute(
+                "INSERT OR REPLACE INTO about (key, value) VALUES ('total', '2'), ('name', ?)",
+                (draw.choice(["c", "\x1b[31m"]),),
+            )
             for text in draw.sample(
                 [
                     "CREATE TRIGGER t AFTER INSERT ON run BEGIN UPDATE run SET outcome = 'passed'; END",
                     "CREATE VIEW v AS WITH RECURSIVE c(x) AS (SELECT 1 UNION ALL SELECT x + 1 FROM c) SELECT * FROM c",
                     "DROP VIEW result",
-                    "CREATE VIEW result AS WITH RECURSIVE c(x) AS (SELECT 1 UNION ALL SELECT x + 1 FROM c) SELECT * FROM c",
+                    "CREATE VIEW result AS WITH RECURSIVE c(x) AS (SELECT 1 UNION ALL SELECT x + 1 FROM c) "
+                    "SELECT * FROM c",
                     "UPDATE run SET outcome = zeroblob(100)",
                     "PRAGMA journal_mode = wal",
                 ],
@@ -240,11 +394,23 @@ class World:
         size = max(1, os.path.getsize(of) // 4096)
         head = bytes.fromhex(SUPER) + struct.pack(">IIIII", 0, 1234, size, 512, 4096)
         name = f"{self.home}/{self.draw.choice(list(HOME))}".encode()
-        end = struct.pack(">II", 0xFFFFFFFF, 0)[:4] + name + struct.pack(">II", len(name), sum(name) & 0xFFFFFFFF) + bytes.fromhex(SUPER)
+        end = (
+            struct.pack(">II", 0xFFFFFFFF, 0)[:4]
+            + name
+            + struct.pack(">II", len(name), sum(name) & 0xFFFFFFFF)
+            + bytes.fromhex(SUPER)
+        )
         self.write(path, head.ljust(512, b"\0") + (end if self.draw.random() < 0.8 else b""))
 
 
 def quoted(text):
     """A text as TOML has it."""
     plain = text.encode("utf-8", "surrogateescape").decode("utf-8", "replace")
-    return '"' + "".join(character if 0x20 <= ord(character) < 0x7F and character not in '"\\' else f"\\U{ord(character):08X}" for character in plain) + '"'
+    return (
+        '"'
+        + "".join(
+            character if 0x20 <= ord(character) < 0x7F and character not in '"\\' else f"\\U{ord(character):08X}"
+            for character in plain
+        )
+        + '"'
+    )

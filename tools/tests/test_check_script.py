@@ -13,7 +13,8 @@ GOOD = "int main(void) { return 0; }\n"
 CASE = "trace relay.trace\ntext 4 'relay'\n"
 
 pytestmark = [
-    pytest.mark.skipif(not shutil.which(program), reason=f"needs {program} (Debian's gcc-avr)") for program in ("avr-gcc", "avr-objcopy")
+    pytest.mark.skipif(not shutil.which(program), reason=f"needs {program} (Debian's gcc-avr)")
+    for program in ("avr-gcc", "avr-objcopy")
 ]
 
 
@@ -57,12 +58,16 @@ def test_a_good_folder_twice(place):
         assert check(place) == (0, "TAP version 13\n1..1\nok 1 - ./good.expect # 260 rows, 1 expectations\n", "")
         assert xml.etree.ElementTree.parse(place / "out/junit.xml").getroot()[0].get("tests") == "1"
         (place / "out" / "stale.expect").write_text("no case")
-    done = subprocess.run(["sha256sum", "-c", "--strict", "SHA256SUMS"], cwd=place / "out", capture_output=True, check=False)
+    done = subprocess.run(
+        ["sha256sum", "-c", "--strict", "SHA256SUMS"], cwd=place / "out", capture_output=True, check=False
+    )
     assert done.returncode in (0, 1) and {"./good.hex: OK", "./good.c: OK"} <= set(done.stdout.decode().splitlines())
 
 
 @needs_module("junit_xml", "python3-junit.xml")
-@pytest.mark.parametrize("name", ["@opts.c", "-x.c", "-wrapper.c", "-o.c", "$(touch ran).c", "a b\n.c", "'.c", '".c', "*.c", "\x1b[31m.c"])
+@pytest.mark.parametrize(
+    "name", ["@opts.c", "-x.c", "-wrapper.c", "-o.c", "$(touch ran).c", "a b\n.c", "'.c", '".c', "*.c", "\x1b[31m.c"]
+)
 def test_names_of_sources(place, name):
     """avr-gcc takes @FILE for a file of options, one of which runs a program."""
     write_spy(place / "mine" / "spy")
@@ -101,11 +106,22 @@ def test_links_and_pipes_deeper(place):
     status, _, err = check(place)
     assert (status, err) == (0, "check.sh: left out: 3 links, pipes or devices\n")
     assert sorted(os.listdir(place / "out")) == [
-        ".check.sh", "SHA256SUMS", "good.c", "good.elf", "good.expect", "good.hex", "junit.xml", "relay.trace", "sub",
-    ]  # fmt: skip
+        ".check.sh",
+        "SHA256SUMS",
+        "good.c",
+        "good.elf",
+        "good.expect",
+        "good.hex",
+        "junit.xml",
+        "relay.trace",
+        "sub",
+    ]
 
 
-@pytest.mark.parametrize("words", [["mine", "out"], ["mine", "out/"], ["mine", "out/deep"], ["mine", "@/out"], ["mine", "@/out/deep"], ["mine"]])
+@pytest.mark.parametrize(
+    "words",
+    [["mine", "out"], ["mine", "out/"], ["mine", "out/deep"], ["mine", "@/out"], ["mine", "@/out/deep"], ["mine"]],
+)
 def test_a_link_on_the_way_to_out(place, words):
     os.symlink("home", place / "out")
     os.symlink("home", place / "build")
@@ -117,7 +133,9 @@ def test_an_out_of_the_users(place):
     assert check(place, "mine", "home") == (2, "", "check.sh: home: it is not empty, and of no earlier call\n")
 
 
-@pytest.mark.parametrize("words", [[], ["--timeout"], ["--timeout", "0", "mine"], ["--timeout", "1e3", "mine"], ["none"], ["mine", "a", "b"]])
+@pytest.mark.parametrize(
+    "words", [[], ["--timeout"], ["--timeout", "0", "mine"], ["--timeout", "1e3", "mine"], ["none"], ["mine", "a", "b"]]
+)
 def test_words(place, words):
     status, out, err = check(place, *(words or [""]))
     assert (status, out, err) == (2, "", "usage: check.sh [--timeout SECONDS] FOLDER [OUT]\n")
@@ -125,10 +143,26 @@ def test_words(place, words):
 
 def test_programs_of_the_folder_are_not_run(place):
     """Also where the user looks for programs where he stands."""
-    for name in ("avr-gcc", "avr-objcopy", "avrora-tools", "timeout", "find", "tar", "sed", "cat", "sha256sum", "python3"):
+    for name in (
+        "avr-gcc",
+        "avr-objcopy",
+        "avrora-tools",
+        "timeout",
+        "find",
+        "tar",
+        "sed",
+        "cat",
+        "sha256sum",
+        "python3",
+    ):
         write_spy(place / "mine" / name)
         write_spy(place / name)
-    for path in (f".:{os.environ['PATH']}", f":{os.environ['PATH']}", f"{os.environ['PATH']}:", f"mine:{os.environ['PATH']}"):
+    for path in (
+        f".:{os.environ['PATH']}",
+        f":{os.environ['PATH']}",
+        f"{os.environ['PATH']}:",
+        f"mine:{os.environ['PATH']}",
+    ):
         assert check(place, PATH=path, CDPATH=f"{place}/mine:.")[0] in (0, 1)
 
 

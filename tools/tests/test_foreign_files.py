@@ -34,10 +34,16 @@ def expect(place, case, *words):
     return status, out
 
 
-@pytest.mark.parametrize("name", ["@/secret/file", "../secret/file", "link", "second", "folder/file", "folder/rows", "@/secret/rows"])
+@pytest.mark.parametrize(
+    "name", ["@/secret/file", "../secret/file", "link", "second", "folder/file", "folder/rows", "@/secret/rows"]
+)
 def test_secrets_are_not_told(place, name):
     name = name.replace("@", str(place.parent))
-    for case in (f"trace {name}\n* * sent *\n", f"trace relay.trace\ngolden {name}\n", f"trace relay.trace\ngolden {name} without cycles\n"):
+    for case in (
+        f"trace {name}\n* * sent *\n",
+        f"trace relay.trace\ngolden {name}\n",
+        f"trace relay.trace\ngolden {name} without cycles\n",
+    ):
         status, out = expect(place, case)
         assert status == 2 and "line" in out and "none of its text is told" in out, case
 
@@ -56,13 +62,33 @@ def test_what_has_no_end(place, name):
     simulator.write_text("#!/bin/sh\nexec cat $2\n")
     simulator.chmod(0o755)
     (place / "net.toml").write_text(f"cycles = 9\nnode = [{{ image = '{name}' }}]\n")
-    for source in (f"trace {name}", f"trace relay.trace\ngolden {name}", f"run {name}", f"node {name} 10", "run net.toml"):
+    for source in (
+        f"trace {name}",
+        f"trace relay.trace\ngolden {name}",
+        f"run {name}",
+        f"node {name} 10",
+        "run net.toml",
+    ):
         case = source + ("\n" if "golden" in source else "\n* 0 sent *\n")
         status, out = expect(place, case, "--timeout", "60", "--avrora", str(simulator))
         assert status == 2 and "a device or a pipe, and no file" in out, source
 
 
-@pytest.mark.parametrize("name", ["@/secret/new", "@/secret/file", "../secret/new", "../b.rows", "folder/new", "link", "dangling", "folder", "sub/../../secret/new", "pipe"])
+@pytest.mark.parametrize(
+    "name",
+    [
+        "@/secret/new",
+        "@/secret/file",
+        "../secret/new",
+        "../b.rows",
+        "folder/new",
+        "link",
+        "dangling",
+        "folder",
+        "sub/../../secret/new",
+        "pipe",
+    ],
+)
 def test_golden_traces_are_saved_here_alone(place, name):
     name = name.replace("@", str(place.parent))
     status, out = expect(place, f"trace relay.trace\ngolden {name}\n", "--save")

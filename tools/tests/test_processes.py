@@ -29,7 +29,10 @@ def children():
 
 
 class TestExpressions:
-    @pytest.mark.parametrize("expression, text, wanted", [(b"^b$", b"a\nb\nc", True), (b"^b$", b"abc", False), (b"\xff", bytearray(b"\xfe\xff"), True)])
+    @pytest.mark.parametrize(
+        "expression, text, wanted",
+        [(b"^b$", b"a\nb\nc", True), (b"^b$", b"abc", False), (b"\xff", bytearray(b"\xfe\xff"), True)],
+    )
     def test_answers(self, expression, text, wanted):
         assert expressions.has(expression, text) == wanted
 
@@ -58,7 +61,9 @@ class TestCases:
     """Of `expect`: row by row read, and then searched."""
 
     def test_a_check_under_its_timeout(self):
-        with scratch("a.expect", "text 4 matches '(.*.*)*..#'\n") as bad, scratch("b.expect", "text 4 'relay'\n") as good:
+        with scratch("a.expect", "text 4 matches '(.*.*)*..#'\n") as bad, scratch(
+            "b.expect", "text 4 'relay'\n"
+        ) as good:
             for jobs in ("1", "3"):
                 status, out, _ = run_tool(
                     "expect", "--timeout", "5", "--jobs", jobs, "--trace", trace_of_serial(bad), bad, good
@@ -66,8 +71,7 @@ class TestCases:
                 assert status == 3 and "a.expect: it took more than 5 seconds" in out
 
     def test_a_check_without_one(self, monkeypatch):
-        monkeypatch.setattr(expressions, "SECONDS", 0.2)
-        monkeypatch.setattr(expressions.has, "__defaults__", (0.2,))
+        monkeypatch.setattr(expressions.has, "__defaults__", (5,))  # which reading the case takes on no machine
         with scratch("a.expect", "text 4 matches '(.*.*)*..#'\n") as case:
             status, out, _ = run_tool("expect", "--trace", trace_of_serial(case), case)
         assert status == 3 and "a.expect, line 1: the search for the expression takes more than" in out

@@ -1,4 +1,5 @@
-"""What docs/FAULTS.md and docs/FORMATS.md say of the program: how much stack it needs, and which fault of several it tells."""
+"""What docs/FAULTS.md and docs/FORMATS.md say of the program: how much stack it needs, and which fault of several it
+tells."""
 import itertools
 import os
 import resource
@@ -39,7 +40,9 @@ def called(place, *words, stack=None):
         if stack:
             resource.setrlimit(resource.RLIMIT_STACK, (stack * 1024, stack * 1024))
 
-    return subprocess.run([PROGRAM, *words], cwd=place, capture_output=True, check=False, timeout=LONG, preexec_fn=limit)
+    return subprocess.run(
+        [PROGRAM, *words], cwd=place, capture_output=True, check=False, timeout=LONG, preexec_fn=limit
+    )
 
 
 def said(place, *words):
@@ -50,11 +53,23 @@ def said(place, *words):
 @pytest.mark.parametrize(
     "words",
     [
-        "run packet.toml", "run --plain packet.toml", "check packet.toml", "monitor packet.toml 0 1000", "sniff packet.toml",
-        "head packet.toml 1", "save packet.toml 1", "resume packet.toml state", "head packet.toml 1 state",
-        "save packet.toml 1 state", "sweep packet.toml state moves", "node hello.hex 1000", "disasm hello.hex", "asm digits.s", "make 3",
+        "run packet.toml",
+        "run --plain packet.toml",
+        "check packet.toml",
+        "monitor packet.toml 0 1000",
+        "sniff packet.toml",
+        "head packet.toml 1",
+        "save packet.toml 1",
+        "resume packet.toml state",
+        "head packet.toml 1 state",
+        "save packet.toml 1 state",
+        "sweep packet.toml state moves",
+        "node hello.hex 1000",
+        "disasm hello.hex",
+        "asm digits.s",
+        "make 3",
     ],
-)  # fmt: skip
+)
 def test_the_stack(words, place):
     done = called(place, *words.split(), stack=640)
     assert done.returncode == 0 and done.stdout

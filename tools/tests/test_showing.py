@@ -19,7 +19,9 @@ HIDDEN = ("Cc", "Cf", "Cs", "Zl", "Zp", "Co", "Cn")
 ESCAPE = re.compile(r"\\(x[0-9A-Fa-f]{2}|u[0-9A-F]{4}|U[0-9A-F]{8})")
 
 # Any text, and of it much that means something to what shows it.
-TEXTS = strategies.text(strategies.characters()) | strategies.text(strategies.sampled_from(list("<>&\"'$#\x1b\n\r\u202e\u2028-!/ end")))
+TEXTS = strategies.text(strategies.characters()) | strategies.text(
+    strategies.sampled_from(list("<>&\"'$#\x1b\n\r\u202e\u2028-!/ end"))
+)
 
 EXAMPLES = {
     "a": "a",
@@ -122,7 +124,13 @@ def test_any_text_in_html(text):
 
 
 @settings(deadline=None)
-@given(strategies.recursive(TEXTS | strategies.integers(), lambda parts: strategies.lists(parts) | strategies.dictionaries(TEXTS, parts), max_leaves=8))
+@given(
+    strategies.recursive(
+        TEXTS | strategies.integers(),
+        lambda parts: strategies.lists(parts) | strategies.dictionaries(TEXTS, parts),
+        max_leaves=8,
+    )
+)
 def test_any_value_in_a_script(value):
     shown = showing.script_data(value)
     assert json.loads(shown) == value

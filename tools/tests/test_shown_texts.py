@@ -1,4 +1,5 @@
-"""Names and values of a stranger's files, in what the tools write: none moves a cursor, begins a line or ends an element."""
+"""Names and values of a stranger's files, in what the tools write: none moves a cursor, begins a line or ends an
+element."""
 import collections
 import html.parser
 import io
@@ -67,7 +68,9 @@ def test_the_path_of_a_program(place, monkeypatch):
     assert status == 0 and is_clean(out) and r"instructions of a\x1B[31m\x0A.elf that ran" in out
 
 
-@pytest.mark.parametrize("text", [f"cycles = 9\n{json.dumps(HOSTILE)} = 1\nnode = [{{ image = 'a' }}]\n", "cycles = '\x07'\n", "\x1b[31m"])
+@pytest.mark.parametrize(
+    "text", [f"cycles = 9\n{json.dumps(HOSTILE)} = 1\nnode = [{{ image = 'a' }}]\n", "cycles = '\x07'\n", "\x1b[31m"]
+)
 def test_keys_and_values_of_a_scenario(text):
     with scratch("a\n\x1b[31m.toml", text) as path:
         for words in (["why", path], ["links", path], ["window", path, "0", "9"]):
@@ -108,7 +111,9 @@ class TestPictures:
     def test_a_picture(self, name):
         with scratch("a.toml", self.scenario(name)) as path:
             status, out, _ = run_tool("timeline", "--svg", "-s", path, stdin="5 0 sent 41\n9 0 end 1 running\n")
-        assert status == 0 and showing.printable(os.path.basename(f"{name}.hex")[:-4]) in "".join(xml.etree.ElementTree.fromstring(out).itertext())
+        assert status == 0 and showing.printable(os.path.basename(f"{name}.hex")[:-4]) in "".join(
+            xml.etree.ElementTree.fromstring(out).itertext()
+        )
 
     def test_a_dump(self, name):
         with scratch("a.toml", self.scenario(name)) as path:
@@ -122,10 +127,14 @@ class TestExpect:
     def test_the_name_and_rows_of_a_case(self, tmp_path):
         case, golden = tmp_path / "a\n\x1b[31m]]>&\u202e.expect", tmp_path / "g\n\x1b[2J.rows"
         case.write_text("text 4 'no\\x1b[31m'\ntext 3 matches 'x]]>'\n")
-        status, out, err = run_tool("expect", "--trace", f"{DATA}/relay.trace", "--junit", f"{tmp_path}/out.xml", str(case))
+        status, out, err = run_tool(
+            "expect", "--trace", f"{DATA}/relay.trace", "--junit", f"{tmp_path}/out.xml", str(case)
+        )
         assert status == 1 and is_clean(out) and is_clean(err) and out.count("not ok") == 1
         (found,) = xml.etree.ElementTree.parse(tmp_path / "out.xml").iter("testcase")
-        assert found.get("name") == showing.printable(str(case)) and is_clean("".join(found.itertext()).replace("\t", ""))
+        assert found.get("name") == showing.printable(str(case)) and is_clean(
+            "".join(found.itertext()).replace("\t", "")
+        )
         golden.write_bytes("0 0 sent 41 \x1b[31m\u202e\n".encode())
         case.write_text(f"golden {golden}\n")
         status, out, _ = run_tool("expect", "--trace", f"{DATA}/relay.trace", str(case))
@@ -184,7 +193,9 @@ def test_messages():
     assert status == 2 and is_clean(err) and err.count("\n") == 1
 
 
-@pytest.mark.parametrize("text", [f"stop {HOSTILE}", "instr 0000 nop\x1b", "sent 4\u0661", "serial 41\x9b", "stop 0000 BREAK\u202e"])
+@pytest.mark.parametrize(
+    "text", [f"stop {HOSTILE}", "instr 0000 nop\x1b", "sent 4\u0661", "serial 41\x9b", "stop 0000 BREAK\u202e"]
+)
 def test_rows_have_no_such_text(text):
     """What `annotate`, `diff`, `window` and others write of rows needs no care."""
     assert events.event_of(text) is None
@@ -195,7 +206,11 @@ def test_entries_that_stand_for_themselves():
 
     class Entry:
         def __init__(self):
-            self.offset, self.attributes, self.tag = 7, {"DW_AT_abstract_origin": None, "DW_AT_type": None}, "DW_TAG_const_type"
+            self.offset, self.attributes, self.tag = (
+                7,
+                {"DW_AT_abstract_origin": None, "DW_AT_type": None},
+                "DW_TAG_const_type",
+            )
 
         def get_DIE_from_attribute(self, _name):
             return self

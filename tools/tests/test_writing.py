@@ -94,7 +94,10 @@ class TestFiles:
         files.write_whole("../a", "c")
         assert (place / "a").read_text() == "c"
 
-    @pytest.mark.parametrize("path, why", [("sub", IsADirectoryError), ("sub/", IsADirectoryError), ("no/a", FileNotFoundError), ("", IsADirectoryError)])
+    @pytest.mark.parametrize(
+        "path, why",
+        [("sub", IsADirectoryError), ("sub/", IsADirectoryError), ("no/a", FileNotFoundError), ("", IsADirectoryError)],
+    )
     def test_what_is_no_file(self, place, path, why):
         (place / "sub").mkdir()
         with pytest.raises(why) as fault:
