@@ -66,6 +66,8 @@ def run_parts(python: str, without: list[str]) -> tuple[list[parts.Told], list[s
                 wrong.append(str(why))
     if count_instructions(program, without):
         wrong.append("bench/probes.sh: the program takes more host instructions than it may")
+    if program and subprocess.run([f"{TOP}/bench/out_of_memory.sh", program], stdin=subprocess.DEVNULL, check=False).returncode:
+        wrong.append("bench/out_of_memory.sh: a run by threads did not end as it is to, out of memory")
     return told, wrong + [it.line() for it in told if it.wrong]
 
 

@@ -11,6 +11,7 @@ from pathlib import Path
 
 sys.dont_write_bytecode = True
 import wrong_bodies as made  # noqa: E402 (it lies beside this file)
+from gating import suites  # noqa: E402 (likewise)
 
 SOURCE = """\
 // A crate.
@@ -111,4 +112,6 @@ class Bodies(unittest.TestCase):
 
 
 if __name__ == "__main__":
-    unittest.main()
+    if sys.argv[1:2] in (["--help"], ["-h"]):
+        sys.exit(print(__doc__))
+    sys.exit(suites.run("test_wrong_bodies", sys.modules[__name__]))

@@ -138,6 +138,7 @@ def all_parts(top: str, python: str, folder: str, side_by_side: bool) -> list[Pa
         Part("maps", [script("test_doc_maps.py")]),
         Part("checks", [script("test_documents.py")]),
         Part("set-up", [script("test_gating.py")]),
+        Part("wrong bodies", [script("test_wrong_bodies.py")]),
         Part("first run", [script("test_first_run.py")]),
         Part("release", [script("test_release.py")]),
         Part("tools", [[f"{top}/tools/test", *spread, f"--junitxml={report}"]], report),
