@@ -22,8 +22,12 @@ from avrora_tools.states import EPOCH, State
 # So many cycles are traced at once: few for steps, more to look for a breakpoint.
 STEP_SPAN, SEARCH_SPAN = 1_000, MAX_WINDOW
 
-# What is kept: states in memory, windows for steps, epochs' events, states at epochs' ends on the disk.
+# What is kept: states in memory, windows for steps, epochs' events, states at epochs' ends on the disk; bytes of traces.
 KEPT_STATES, KEPT_WINDOWS, KEPT_EPOCHS, KEPT_FILES = 32, 64, 64, 128
+KEPT_BYTES = 64_000_000
+
+# A trace is searched backwards in pieces of so many bytes.
+PIECE = 1 << 16
 
 # The statuses by which the simulator refuses what it reads.
 REFUSED = (2, 4, 5, 8)
@@ -82,6 +86,7 @@ class History:
         self.wants_stop: Callable[[], bool] | None = None
         self.was_stopped = False
         self.saved: dict[int, str] = {}  # by the number of the epoch that begins there
+        self.traces: dict[int, bytes] = {}  # of spans that were searched, by their numbers, the latest last
         self.state = functools.lru_cache(KEPT_STATES)(self.looked)
         self.window = functools.lru_cache(KEPT_WINDOWS)(self.read_window)
         self.events = functools.lru_cache(KEPT_EPOCHS)(self.read_events)
@@ -146,9 +151,10 @@ class History:
 
     def read_window(self, number: int) -> Window:
         """The rows of the span with this number, each of STEP_SPAN cycles."""
-        first = max(number * STEP_SPAN, self.first)
+        first, end = max(number * STEP_SPAN, self.first), min((number + 1) * STEP_SPAN, self.limit)
         rows: list[list[Traced]] = [[] for _ in range(self.nodes)]
-        for node, row in found_in(self.traced_text(first, min((number + 1) * STEP_SPAN, self.limit)), first, PROCESSOR):
+        text = self.traces.get(first // SEARCH_SPAN) or self.traced_text(first, end)
+        for node, row in found_in(text, first, end, PROCESSOR):
             rows[node].append(row)
         return Window(rows)
 
@@ -192,13 +198,12 @@ class History:
     def hits(self, first: int, end: int, like: re.Pattern[bytes]) -> Iterator[tuple[int, Traced]]:
         """The rows of the processor from a cycle on and before another that are like this (`rows_like`), in order."""
         for span, text in self.searched(first, end):
-            yield from ((node, row) for node, row in found_in(text, max(first, span), like) if row.cycle < end)
+            yield from found_in(text, max(first, span), end, like)
 
     def hits_back(self, end: int, like: re.Pattern[bytes]) -> Iterator[tuple[int, Traced]]:
         """Those before a cycle, the last first."""
         for span, text in self.searched_back(end):
-            found = [it for it in found_in(text, span, like) if it[1].cycle < end]
-            yield from reversed(found)
+            yield from found_back(text, span, end, like)
 
     def searched(self, first: int, end: int) -> Iterator[tuple[int, bytes]]:
         """The traces of the spans from a cycle on, some made ahead."""
@@ -210,28 +215,43 @@ class History:
 
     def made_ahead(self, numbers: Sequence[int]) -> Iterator[tuple[int, bytes]]:
         """The traces of spans in the order of their numbers; while one is looked at, the next are made."""
-        ahead = os.cpu_count() or 1
         self.was_stopped = False
+        ahead = 1  # the first is mostly enough
+        cpus = os.cpu_count() or 1
         waiting: collections.deque[tuple[int, concurrent.futures.Future[bytes]]] = collections.deque()
         left = iter(numbers)
-        with concurrent.futures.ThreadPoolExecutor(ahead) as pool:
+        with concurrent.futures.ThreadPoolExecutor(cpus) as pool:
             try:
                 while True:
                     while len(waiting) < ahead and (number := next(left, None)) is not None:
                         first = max(number * SEARCH_SPAN, self.first)
                         self.checkpoint(first // EPOCH)  # here, since files are made one by one
-                        end = min((number + 1) * SEARCH_SPAN, self.limit)
-                        waiting.append((first, pool.submit(self.traced_text, first, end)))
+                        waiting.append((first, pool.submit(self.searched_text, number)))
                     if not waiting:
                         return
                     first, made = waiting.popleft()
-                    yield first, made.result()
+                    yield first, self.keep(first // SEARCH_SPAN, made.result())
+                    ahead = cpus
                     if self.wants_stop and self.wants_stop():
                         self.was_stopped = True
                         return
             finally:
                 for _, made in waiting:
                     made.cancel()
+
+    def searched_text(self, number: int) -> bytes:
+        """The trace of a span to search, which may have been made before."""
+        if (text := self.traces.get(number)) is not None:
+            return text
+        return self.traced_text(max(number * SEARCH_SPAN, self.first), min((number + 1) * SEARCH_SPAN, self.limit))
+
+    def keep(self, number: int, text: bytes) -> bytes:
+        """Keeps the trace of a span as the latest, and as many of those before as there is room for."""
+        self.traces.pop(number, None)
+        self.traces[number] = text
+        while sum(map(len, self.traces.values())) > KEPT_BYTES and len(self.traces) > 1:
+            del self.traces[next(iter(self.traces))]
+        return text
 
     # ---- sends, samples, USART0
 
@@ -273,15 +293,38 @@ def rows_like(nodes: Iterable[int] | None, addresses: Iterable[int] | None = Non
     return re.compile(rb"^\d+ %s (?:%sstop) [^\n]*" % (number, begins), re.M)
 
 
-def found_in(text: bytes, first: int, like: re.Pattern[bytes]) -> Iterator[tuple[int, Traced]]:
-    """The rows of a trace from a cycle on that are like this: node and row."""
-    for match in like.finditer(text):
-        cycle, node, kind, address, *rest = match[0].decode("ascii").split(" ", 4)
-        if int(cycle) >= first:
-            if kind == "enter":
-                yield int(node), Traced(int(cycle), kind, int(rest[0], 16), address)
-            else:
-                yield int(node), Traced(int(cycle), kind, int(address, 16), rest[0])
+def found_in(text: bytes, first: int, end: int, like: re.Pattern[bytes]) -> Iterator[tuple[int, Traced]]:
+    """The rows of a trace from a cycle on and before another that are like this: node and row."""
+    yield from map(traced_of, like.finditer(text, line_at(text, first), line_at(text, end)))
+
+
+def found_back(text: bytes, first: int, end: int, like: re.Pattern[bytes]) -> Iterator[tuple[int, Traced]]:
+    """The same, the last first."""
+    lowest, place = line_at(text, first), line_at(text, end)
+    while place > lowest:
+        begin = max(lowest, text.rfind(b"\n", 0, max(place - PIECE, 0)) + 1)
+        yield from map(traced_of, reversed(list(like.finditer(text, begin, place))))
+        place = begin
+
+
+def traced_of(match: re.Match[bytes]) -> tuple[int, Traced]:
+    cycle, node, kind, address, *rest = match[0].decode("ascii").split(" ", 4)
+    if kind == "enter":
+        return int(node), Traced(int(cycle), kind, int(rest[0], 16), address)
+    return int(node), Traced(int(cycle), kind, int(address, 16), rest[0])
+
+
+def line_at(text: bytes, cycle: int) -> int:
+    """Where in a trace the first line of a cycle or a later one begins."""
+    low, high = 0, len(text)
+    while low < high:
+        begin = text.rfind(b"\n", 0, (low + high) // 2) + 1
+        after = text.find(b"\n", begin) + 1 or len(text)
+        if int(text[begin : text.index(b" ", begin)]) < cycle:
+            low = after
+        else:
+            high = begin
+    return low
 
 
 @contextlib.contextmanager
