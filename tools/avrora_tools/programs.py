@@ -205,10 +205,11 @@ def source_paths(unit: Any, program: Any) -> list[str]:
     folders = [folder, *(part.decode("utf-8", "replace") for part in program["include_directory"])]
     if program["version"] >= 5:
         folders = folders[1:]  # whose first entry is the folder of the compilation
-    return [
+    paths = (
         os.path.normpath(os.path.join(folder, folders[one.dir_index], one.name.decode("utf-8", "replace")))
         for one in program["file_entry"]
-    ]
+    )
+    return list(map(files.printable, paths))
 
 
 class Programs:

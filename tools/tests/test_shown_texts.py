@@ -109,11 +109,14 @@ class TestPictures:
         assert data["nodes"][0]["name"] == "0 " + showing.printable(os.path.basename(f"{name}.hex")[:-4])
 
     def test_a_picture(self, name):
-        with scratch("a.toml", self.scenario(name)) as path:
-            status, out, _ = run_tool("timeline", "--svg", "-s", path, stdin="5 0 sent 41\n9 0 end 1 running\n")
-        assert status == 0 and showing.printable(os.path.basename(f"{name}.hex")[:-4]) in "".join(
-            xml.etree.ElementTree.fromstring(out).itertext()
-        )
+        """It has the elements of one without names; a long name is cut."""
+        rows = "5 0 sent 41\n9 0 end 1 running\n"
+        with scratch("a.toml", self.scenario(name)) as path, scratch("a.toml", self.scenario("a")) as other:
+            status, out, _ = run_tool("timeline", "--svg", "-s", path, stdin=rows)
+            plain = run_tool("timeline", "--svg", "-s", other, stdin=rows)[1]
+        found, wanted = (xml.etree.ElementTree.fromstring(text) for text in (out, plain))
+        assert status == 0 and is_clean("".join(found.itertext()))
+        assert {element.tag for element in found.iter()} == {element.tag for element in wanted.iter()}
 
     def test_a_dump(self, name):
         with scratch("a.toml", self.scenario(name)) as path:
