@@ -20,6 +20,8 @@ USES = {
     "diff": (["@relay.trace", "@flood.trace"], 1),
     "energy": (["--always-listening", "@currents.toml", "@energy.toml", "@energy.profile"], 0),
     "expect": (["--trace", "@relay.trace", "@relay.expect"], 0),
+    "export": (["csv", "@relay.trace"], 0),
+    "gdb": (["--avrora", "@avrora", "@relay.toml"], None),  # it speaks with gdb
     "inspect": (["@net.state"], 0),
     "links": (["@relay.toml", "@relay.trace"], 0),
     "mknet": (["line", "relay.hex*5"], 0),

@@ -125,8 +125,10 @@ def test_a_never_without_room_is_the_verdict_of_its_run(folder):
     )
 
 
-def left_over():
-    return {path.name for path in Path("/tmp").glob("avrora-sweep-*")}
+def of_its_own(place):
+    """An environment whose folder for temporary files is nobody else's; a tool sees it as a process of its own."""
+    place.mkdir()
+    return {"TMPDIR": str(place), "PYTHONPATH": ""}
 
 
 @pytest.mark.parametrize(
@@ -141,19 +143,19 @@ def test_a_simulator_that_fails_is_told_and_leaves_no_folder(folder, tmp_path, l
     script = tmp_path / "avrora"
     script.write_text(f'#!/bin/sh\nif [ "$1" = sweep ]; then {line}; fi\nexec {PROGRAM} "$@"\n')
     script.chmod(0o755)
-    before = left_over()
-    done = sweep(folder, "torn_guard", env={"AVRORA_PROGRAM": str(script)})
+    env = {"AVRORA_PROGRAM": str(script), **of_its_own(tmp_path / "own")}
+    done = sweep(folder, "torn_guard", env=env)
     assert done[0] == status and done[2] == f"avrora-tools sweep: {why}\n"
-    assert left_over() <= before
+    assert not list((tmp_path / "own").iterdir())
 
 
-def test_what_ends_a_sweep_is_told_and_leaves_no_folder(folder):
+def test_what_ends_a_sweep_is_told_and_leaves_no_folder(folder, tmp_path):
     (folder / "late.py").write_text("def check(run):\n    return 1 / 0 if run.at > 280_100 else None")
-    before = left_over()
+    env = of_its_own(tmp_path / "own")
     for _ in range(5):
-        status, _, err = sweep(folder, "torn_guard", "--check", str(folder / "late.py"))
+        status, _, err = sweep(folder, "torn_guard", "--check", str(folder / "late.py"), env=env)
         assert (status, err) == (
             2,
             "avrora-tools sweep: check() of the predicate: ZeroDivisionError: division by zero\n",
         )
-    assert left_over() <= before
+    assert not list((tmp_path / "own").iterdir())
