@@ -43,6 +43,18 @@ def program(name):
     return packages.Package(name, "program", name, None)
 
 
+# The scripts that come before the tools, in their order.
+PARTS = (
+    "check_docs",
+    "test_doc_maps",
+    "test_documents",
+    "test_gating",
+    "test_wrong_bodies",
+    "test_first_run",
+    "test_release",
+)
+
+
 class Folder(unittest.TestCase):
     """Has a folder of its own, whose bin is on the PATH."""
 
@@ -277,7 +289,7 @@ class Run(Folder):
         ):
             (self.top / path).parent.mkdir(parents=True, exist_ok=True)
             shutil.copy2(TOP / path, self.top / path)
-        for name in ("check_docs", "test_doc_maps", "test_documents", "test_gating", "test_first_run", "test_release"):
+        for name in PARTS:
             fake_kit.write(self.top / f"scripts/{name}.py", PART.format(name))
         fake_kit.write(self.top / "tools/test", TOOLS)
         fake_kit.write_crates(self.top)
@@ -321,24 +333,20 @@ class Run(Folder):
         self.assertEqual(
             ran,
             [
-                "check_docs",
-                "test_doc_maps",
-                "test_documents",
-                "test_gating",
-                "test_first_run",
-                "test_release",
+                *PARTS,
                 "rt",
                 "ci",
             ],
         )
         self.assertRegex(lines[0], "^gate: commit unknown, changed, fake-kit logic 01$")
-        self.assertEqual(lines[-10:], [
+        self.assertEqual(lines[-11:], [
             "one",
             "three",
             "documents: 5 things, 0 wrong",
             "maps: 5 things, 0 wrong",
             "checks: 5 things, 0 wrong",
             "set-up: 5 things, 0 wrong",
+            "wrong bodies: 5 things, 0 wrong",
             "first run: 5 things, 0 wrong",
             "release: 5 things, 0 wrong",
             "tools: 2 tests, 0 wrong",
