@@ -35,7 +35,7 @@ LONG = 600
 NEEDS = ("bash", "awk", "git", "dpkg-deb", "sha256sum", "tar")
 
 # What a release is made from beside its crates.
-PARTS = ("README.md", "CHANGELOG.md", "avrora", "prove.py", ".gitignore", ".ci/", "docs/", "examples/", "scripts/", "tools/")
+PARTS = ("README.md", "SECURITY.md", "CHANGELOG.md", "avrora", "prove.py", ".gitignore", ".ci/", "docs/", "examples/", "scripts/", "tools/")
 
 # The commits of the repository that is released here are of this time.
 ENVIRONMENT = {
