@@ -88,7 +88,18 @@ class Golden(NamedTuple):
     with_cycles: bool
 
 
-Statement = Expected | Never | Count | Text | Lines | Golden
+class Condition(NamedTuple):
+    """What is to hold of a node's variables: in each cycle of a span (`always`), in none (`never`), in one
+    (`reaches`)."""
+
+    line: int
+    word: str
+    node: int
+    text: str
+    span: Span | None
+
+
+Statement = Expected | Never | Count | Text | Lines | Golden | Condition
 
 
 class Case(NamedTuple):
@@ -100,6 +111,11 @@ class Case(NamedTuple):
     nodes: frozenset[int] | None
     kinds: frozenset[str] | None
     statements: list[Statement]
+    elfs: tuple[str, ...] = ()  # FILE, or NODES=FILE: the programs of which conditions name variables
+
+    @property
+    def conditions(self) -> list[Condition]:
+        return [one for one in self.statements if isinstance(one, Condition)]
 
 
 class Only(NamedTuple):
@@ -115,6 +131,7 @@ def read_case(path: str) -> Case:
     name = files.shown(path)
     source: tuple[str, ...] | None = None
     only: Only | None = None
+    elfs: list[str] = []
     statements: list[Statement] = []
     text = files.read_text(path)
     if "\0" in text:
@@ -129,6 +146,8 @@ def read_case(path: str) -> Case:
                 source = read_source(words, source)
             elif words[0] == "only":
                 only = read_only(words[1:], only)
+            elif words[0] == "elf":
+                elfs += read_elfs(words[1:])
             else:
                 statements.append(read_statement(line, number, folder))
         except (ValueError, SyntaxError, argparse.ArgumentTypeError, RecursionError, MemoryError) as fault:
@@ -139,7 +158,8 @@ def read_case(path: str) -> Case:
         refuse_unseen(name, statement, only or Only())
     refuse_between(name, statements)
     refuse_certain(name, statements, only or Only())
-    return Case(path, folder, source, (only or Only()).nodes, (only or Only()).kinds, statements)
+    refuse_unwatched(name, statements, source, elfs)
+    return Case(path, folder, source, (only or Only()).nodes, (only or Only()).kinds, statements, tuple(elfs))
 
 
 def refuse_unseen(name: str, statement: Statement, only: Only) -> None:
@@ -153,6 +173,15 @@ def refuse_unseen(name: str, statement: Statement, only: Only) -> None:
     if only.kinds is not None and (pattern.named_kinds - only.kinds or not pattern.kinds & only.kinds):
         kinds = sorted(pattern.named_kinds - only.kinds or pattern.kinds)
         raise BadInput(f"{name}, line {statement.line}: rows {', '.join(kinds)} are none of those of `only`")
+
+
+def refuse_unwatched(name: str, statements: list[Statement], source: tuple[str, ...] | None, elfs: list[str]) -> None:
+    """Raises BadInput where a condition is stated of what is not run here, and where a program is named for none."""
+    stated = [statement for statement in statements if isinstance(statement, Condition)]
+    if stated and (source is None or source[0] != "run"):
+        raise BadInput(f"{name}, line {stated[0].line}: a condition is judged over a run: `run SCENARIO` is due above")
+    if elfs and not stated:
+        raise BadInput(f"{name}: `elf` names a program, and no condition is stated of its variables")
 
 
 def refuse_between(name: str, statements: list[Statement]) -> None:
@@ -277,6 +306,12 @@ def read_source(words: list[str], source: tuple[str, ...] | None) -> tuple[str, 
     return tuple(words)
 
 
+def read_elfs(words: list[str]) -> list[str]:
+    if not words:
+        raise ValueError("after elf stand files of programs: FILE, or NODES=FILE")
+    return words
+
+
 def read_only(words: list[str], before: Only | None) -> Only:
     nodes: set[int] = set()
     kinds: set[str] = set()
@@ -298,8 +333,12 @@ def read_statement(line: str, number: int, folder: str) -> Statement:
     span: Span | None = None
     if match := re.fullmatch(r"within\s+(\S+):\s+(.*)", line):
         span, line = span_of(match[1]), match[2]
+    elif match := re.fullmatch(rf"before\s+({NUMBER}):\s+(.*)", line):
+        span, line = before(match[1]), match[2]
     word, _, rest = line.partition(" ")
     rest = " ".join(rest.split())
+    if word in ("always", "reaches") or word == "never" and is_condition(rest):
+        return read_condition(word, rest, number, span)
     if word == "never":
         return Never(number, Pattern(rest) if not span else absolute(rest, span), span)
     if word == "count":
@@ -307,7 +346,7 @@ def read_statement(line: str, number: int, folder: str) -> Statement:
     if word == "text":
         return read_text(line, number, span)
     if span:
-        raise ValueError("`within A..B:` stands before never, count and text alone")
+        raise ValueError("`within A..B:` stands before never, count, text, always and reaches alone")
     if word == "golden":
         match = re.fullmatch(r"(\S+)( without cycles)?", rest)
         if not match:
@@ -319,6 +358,27 @@ def read_statement(line: str, number: int, folder: str) -> Statement:
     if not BEGINS_A_ROW.match(word):
         raise ValueError(f"no statement is called {word}")
     return Expected(number, Pattern(line), None)
+
+
+def before(digits: str) -> Span:
+    """The cycles before one."""
+    if whole(digits) == 0:
+        raise ValueError("no cycle comes before 0")
+    return Span(0, whole(digits) - 1)
+
+
+def is_condition(rest: str) -> bool:
+    """Whether what stands behind `never` is a node and a condition, and no row, whose third word is its kind."""
+    words = rest.split(" ", 3)
+    is_row = len(words) >= 3 and (words[2] in KINDS or words[2][0] in "*{")
+    return bool(re.fullmatch("[0-9]+", words[0])) and not is_row
+
+
+def read_condition(word: str, rest: str, number: int, span: Span | None) -> Condition:
+    match = re.fullmatch(r"([0-9]+) (.+)", rest)
+    if not match:
+        raise ValueError(f"`{word} NODE CONDITION`, such as `{word} 1 queued <= 3`")
+    return Condition(number, word, node_of(match[1]), match[2], span)
 
 
 def absolute(text: str, span: Span | None = None) -> Pattern:

@@ -10,7 +10,7 @@ import os
 import subprocess
 import tempfile
 from collections.abc import Callable, Iterable, Iterator
-from typing import IO, BinaryIO, NamedTuple, Protocol, cast
+from typing import IO, TYPE_CHECKING, BinaryIO, NamedTuple, Protocol, cast
 
 from avrora_tools import expressions, files, groups, showing, traces
 from avrora_tools.cases import (
@@ -34,6 +34,9 @@ from avrora_tools.patterns import Extent, Place
 from avrora_tools.scenarios import BYTE_TIME, MAX_WINDOW, Scenario
 from avrora_tools.wholeness import Lacking
 from avrora_tools.writing import Folder
+
+if TYPE_CHECKING:
+    from avrora_tools.observing.expecting import Observer
 
 __all__ = ["Case", "Golden", "Outcome", "RUNS", "check", "read_case", "run_case"]
 
@@ -427,15 +430,19 @@ def check(
     ended: Ended | None = None,
     window: range | None = None,
     lacking: Lacking | None = None,
+    conditions: Callable[[], Iterable[str]] | None = None,
 ) -> Outcome:
     """Whether a trace, a file or an iterable of bytes, meets the case: all that is not met, or none. With `save` golden
     traces are written anew, whatever they were, unless another expectation is not met. `ended` is called behind the
     last row; `window` has the cycles in which the run traced instructions, where they are known otherwise than by its
-    rows; `lacking` finds rows that are missing, where no simulator has just made them. Raises BadInput where the trace
-    is not whole, or can never meet what is expected."""
+    rows; `lacking` finds rows that are missing, where no simulator has just made them; `conditions` tells what is not
+    met of those on variables. Raises BadInput where the trace is not whole, or can never meet what is expected."""
     blocks = traces.blocks_of(cast(BinaryIO, source)) if hasattr(source, "read") else iter(source)
     # A case may expect what a scenario's byte time allows and another's does not.
     trace = traces.Trace(blocks, name, traces.Form.WHOLE, least_gap=BYTE_TIME.start, lacking=lacking)
+    if case.conditions and conditions is None:
+        why = "a condition on variables is judged by `expect` alone, over the run that the case names"
+        raise BadInput(f"{files.shown(case.path)}, line {case.conditions[0].line}: {why}")
     looked = 0
     gaps: list[Gap] = []
     failures: list[str] = []
@@ -450,6 +457,7 @@ def check(
             refuse_gaps(case, extent, gaps)
         reports.sort(key=lambda report: report.statement.line)
         failures = [showing.printable_lines(report.text(files.shown(case.path))) for report in reports]
+        failures += conditions() if conditions else []
         if failures:
             raise Unmet
     status = Status.NOT_MET if failures else Status.GOOD
@@ -617,14 +625,26 @@ def run_case(case: Case, avrora: str, save: bool = False) -> Outcome:
             rows = traces.file_blocks(path, is_named_by_file=True)
             return check(case, rows, save, files.shown(path), lacking=Lacking())
     refuse_endless(case)
+    observer = observer_of(case, avrora)
     words = [avrora, *case.source]
     with tempfile.TemporaryFile() as errors:
         streams = {"stdin": subprocess.DEVNULL, "stdout": subprocess.PIPE, "stderr": errors}
         with RUNS.started(words, cwd=case.folder, **streams) as process:
-            return checked_run(case, process, errors, save)
+            return checked_run(case, process, errors, save, observer)
 
 
-def checked_run(case: Case, process: subprocess.Popen[bytes], errors: IO[bytes], save: bool) -> Outcome:
+def observer_of(case: Case, avrora: str) -> "Observer | None":
+    """What judges the conditions of a case, if it states any; nothing of it is read for another case."""
+    if not case.conditions:
+        return None
+    from avrora_tools.observing.expecting import Observer
+
+    return Observer(case, avrora)
+
+
+def checked_run(
+    case: Case, process: subprocess.Popen[bytes], errors: IO[bytes], save: bool, observer: "Observer | None"
+) -> Outcome:
     words = f"avrora {files.printable(' '.join(case.source or ()))}"
 
     def ended(came: bool) -> None:
@@ -637,4 +657,6 @@ def checked_run(case: Case, process: subprocess.Popen[bytes], errors: IO[bytes],
             raise fault(f"{files.shown(case.path)}: {words}: status {status}: {said}")
 
     assert process.stdout
-    return check(case, traces.blocks_of(cast(BinaryIO, process.stdout)), save, words, ended, window_of(case))
+    rows = traces.blocks_of(cast(BinaryIO, process.stdout))
+    conditions = observer.failures if observer else None
+    return check(case, rows, save, words, ended, window_of(case), conditions=conditions)

@@ -87,23 +87,35 @@ class View:
                 yield f"  {one.address:04X} {one.type.name} {one.name} = {value}"
 
 
-class NodeMemory:
-    """The data space of a node, with the names of its program."""
+class Targets:
+    """What stands where, by the names of a program, or of none: what a pointer points to."""
 
-    def __init__(self, view: View, node: Node) -> None:
-        self.view, self.node = view, node
+    def __init__(self, view: View | None) -> None:
+        self.view = view
 
     def read(self, address: int, size: int) -> bytes:
-        return bytes(self.node.data[address : address + size])
+        """Nothing is known of the bytes."""
+        return bytes(size)
 
     def object_at(self, address: int) -> str | None:
-        for one in self.view.variables():
+        for one in self.view.variables() if self.view else ():
             if one.address <= address < one.end:
                 return one.name + place_in(one.type, address - one.address)
         return None
 
     def function_at(self, word: int) -> str | None:
-        function = self.view.program.function_at(word)
+        function = self.view.program.function_at(word) if self.view else None
         if function is None or function.first != word:
             return None
         return function.name
+
+
+class NodeMemory(Targets):
+    """The data space of a node, with the names of its program."""
+
+    def __init__(self, view: View, node: Node) -> None:
+        super().__init__(view)
+        self.node = node
+
+    def read(self, address: int, size: int) -> bytes:
+        return bytes(self.node.data[address : address + size])

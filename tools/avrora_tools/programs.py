@@ -300,6 +300,11 @@ def stem(path: str) -> str:
 
 
 def add_programs(parser: argparse.ArgumentParser) -> None:
+    add_elf(parser)
+    cli.add_scenario(parser)
+
+
+def add_elf(parser: argparse.ArgumentParser) -> None:
     parser.add_argument(
         "-e",
         "--elf",
@@ -311,4 +316,3 @@ def add_programs(parser: argparse.ArgumentParser) -> None:
     parser.add_argument(
         "--force", action="store_true", help="take a program that is not that of the image or the trace"
     )
-    cli.add_scenario(parser)

@@ -216,13 +216,18 @@ class Structure:
         return "{" + ", ".join(f"{one.name} {self.member(one, data, memory, depth)}" for one in self.members) + "}"
 
     def member(self, one: Member, data: bytes, memory: Memory, depth: int) -> str:
-        size = one.type.size
-        if one.bits is None:
-            return one.type.shown(data[one.at : one.at + size], memory, depth + 1)
-        value = int.from_bytes(data[one.at :], "little") >> one.low_bit & (1 << one.bits) - 1
-        if is_signed(one.type) and value >> one.bits - 1:
-            value |= -1 << one.bits
-        return one.type.shown((value & (1 << 8 * size) - 1).to_bytes(size, "little"), memory, depth + 1)
+        return one.type.shown(member_bytes(one, data[one.at :]), memory, depth + 1)
+
+
+def member_bytes(one: Member, data: bytes) -> bytes:
+    """The bytes of a member's value, as its type has them, given those from its first one on."""
+    size = one.type.size
+    if one.bits is None:
+        return data[:size]
+    value = int.from_bytes(data, "little") >> one.low_bit & (1 << one.bits) - 1
+    if is_signed(one.type) and value >> one.bits - 1:
+        value |= -1 << one.bits
+    return (value & (1 << 8 * size) - 1).to_bytes(size, "little")
 
 
 @dataclass(frozen=True)
@@ -245,6 +250,19 @@ def is_signed(type_: Type) -> bool:
     while isinstance(type_, Renamed):
         type_ = type_.type
     return isinstance(type_, (Base, Enumeration)) and type_.is_signed
+
+
+def number_of(type_: Type, data: bytes) -> int | float:
+    """The value of a scalar, given its bytes: a number, that of an enumerator, an address, 0 or 1 of a truth value."""
+    while isinstance(type_, Renamed):
+        type_ = type_.type
+    if isinstance(type_, Base) and type_.encoding == FLOAT and type_.size in FLOATS:
+        value: float = struct.unpack(FLOATS[type_.size][0], data)[0]
+        return value
+    number = int.from_bytes(data, "little", signed=is_signed(type_))
+    if isinstance(type_, Base) and type_.encoding in (SIGNED_FIXED, UNSIGNED_FIXED):
+        return number / (1 << type_.fraction_bits())
+    return number
 
 
 @dataclass(frozen=True)

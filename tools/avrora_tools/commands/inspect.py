@@ -6,14 +6,16 @@ from collections.abc import Iterator, Sequence
 from avrora_tools import cli, files, scenarios, states, terminal
 from avrora_tools.errors import BadInput, BadWords, Status
 from avrora_tools.inspection import View
+from avrora_tools.observing.running import Run
 from avrora_tools.programs import Program, Programs, add_programs
 from avrora_tools.states import Node, State
 
 SUMMARY = "a state in words; what differs between two"
 
-DESCRIPTION = """Shows what `avrora save` wrote: each node's processor, stack and devices, and what is on the air. With
-a second state it tells instead what differs, by name: the number of the first state, then that of the second. Addresses
-of the program are word addresses, as in a trace. Status of a comparison: 0 nothing differs, 1 something does.
+DESCRIPTION = """Shows what `avrora save` or `avrora look` wrote: each node's processor, stack and devices, and what is on
+the air. With --at CYCLE it takes a scenario, and shows the state in which its run begins that cycle. With a second
+state it tells instead what differs, by name: the number of the first state, then that of the second. Addresses of the
+program are word addresses, as in a trace. Status of a comparison: 0 nothing differs, 1 something does.
 
 With -e it also tells which functions have not returned, as far as their frames tell, and how low the stack has been:
 the lowest byte above the variables that is not 0, as all memory is 0 at reset. With -g variables have their types and
@@ -246,8 +248,21 @@ def check_programs(state: State, path: str, nodes: Sequence[int], all_programs: 
         )
 
 
+def read_state(arguments: argparse.Namespace) -> State:
+    """The state that is shown: that of a file, or of the scenario's run as a cycle begins."""
+    if arguments.at is None:
+        return State.load(arguments.state)
+    if arguments.other or arguments.scenario:
+        raise BadWords("--at takes a scenario, and no other file")
+    arguments.scenario = arguments.state
+    limit = scenarios.Scenario.load(arguments.state).cycles
+    if arguments.at > limit:
+        raise BadWords(f"--at {arguments.at:,}: the run has the cycles 0 to {limit:,}")
+    return Run.of(cli.simulator(arguments.avrora), arguments.state, limit).looked(arguments.at)
+
+
 def run(arguments: argparse.Namespace) -> int:
-    state = State.load(arguments.state)
+    state = read_state(arguments)
     scenario = scenarios.Scenario.load(arguments.scenario) if arguments.scenario else None
     all_programs = Programs(arguments.elf, scenario, arguments.force)
     other = State.load(arguments.other) if arguments.other else None
@@ -277,6 +292,8 @@ def configure(parser: argparse.ArgumentParser) -> None:
         "-g", "--globals", action="append", default=[], metavar="PATTERN", help="the variables with such names, with -e"
     )
     parser.add_argument("--all", action="store_true", help="of two states all bytes that differ")
+    parser.add_argument("--at", type=cli.natural, metavar="CYCLE", help="STATE is a scenario: its run as CYCLE begins")
+    cli.add_simulator(parser)
     add_programs(parser)
-    parser.add_argument("state", metavar="STATE")
+    parser.add_argument("state", metavar="STATE", help="a state; with --at a scenario")
     parser.add_argument("other", nargs="?", metavar="OTHER", help="a second state, to compare with")

@@ -1,0 +1,230 @@
+"""Conditions on the quantities of a node, such as `queued <= 3 && state != BROKEN`, in the words of C or of Python."""
+import ast
+import itertools
+import math
+import operator
+import re
+from collections.abc import Callable, Mapping
+from dataclasses import dataclass
+
+from avrora_tools import files
+from avrora_tools.errors import BadInput
+from avrora_tools.observing.quantities import Names, Quantity, enumerators_of
+
+LONGEST = 1_000  # letters of a condition
+MOST_DEPTH = 50
+MOST_BITS = 16  # of all quantities of a condition, where each value is tried
+
+Number = int | float
+Values = Mapping[str, Number]
+Term = Callable[[Values], Number]
+
+COMPARISONS: dict[type[ast.cmpop], Callable[[Number, Number], bool]] = {
+    ast.Eq: operator.eq,
+    ast.NotEq: operator.ne,
+    ast.Lt: operator.lt,
+    ast.LtE: operator.le,
+    ast.Gt: operator.gt,
+    ast.GtE: operator.ge,
+}
+
+
+def quotient(a: Number, b: Number) -> Number:
+    """As C divides: whole numbers towards 0. What is divided by 0 is no number."""
+    if b == 0:
+        return math.nan
+    if isinstance(a, float) or isinstance(b, float):
+        return a / b
+    whole = abs(a) // abs(b)
+    return whole if (a < 0) == (b < 0) else -whole
+
+
+def remainder(a: Number, b: Number) -> Number:
+    found = quotient(a, b)
+    return found if isinstance(found, float) else a - b * found
+
+
+def of_whole(name: str, work: Callable[[int, int], int]) -> Callable[[Number, Number], Number]:
+    def done(a: Number, b: Number) -> Number:
+        if isinstance(a, float) or isinstance(b, float):
+            raise BadInput(f"`{name}` takes whole numbers")
+        if name in ("<<", ">>") and not 0 <= b < 64:
+            raise BadInput(f"`{name}` takes 0 to 63 behind it")
+        return work(a, b)
+
+    return done
+
+
+OPERATIONS: dict[type[ast.operator], Callable[[Number, Number], Number]] = {
+    ast.Add: operator.add,
+    ast.Sub: operator.sub,
+    ast.Mult: operator.mul,
+    ast.Div: quotient,
+    ast.Mod: remainder,
+    ast.BitAnd: of_whole("&", operator.and_),
+    ast.BitOr: of_whole("|", operator.or_),
+    ast.BitXor: of_whole("^", operator.xor),
+    ast.LShift: of_whole("<<", operator.lshift),
+    ast.RShift: of_whole(">>", operator.rshift),
+}
+
+# Names that are numbers.
+CONSTANTS = {"true": 1, "false": 0, "NULL": 0}
+
+# A bit of a register, as PORTB.3. A character stays as it is; else what C spells otherwise than Python.
+BIT = re.compile(r"\b([A-Za-z_]\w*)\.([0-7])\b")
+C_WORDS = re.compile(r"""'(?:\\.|[^'\\])+'|&&|\|\||!=|!|->|\b0[0-7]+\b(?![\w.])|\b(\d+|0[xX][0-9A-Fa-f]+)[uUlL]+\b""")
+
+
+def of_python(text: str) -> str:
+    """A condition of C as Python has it."""
+
+    def word(match: re.Match[str]) -> str:
+        found = match[0]
+        if found.startswith("'") or found == "!=":
+            return found
+        if found[0] == "0" and len(found) > 1 and found.isdigit():
+            return str(int(found, 8))
+        if match[1]:
+            return match[1]
+        return {"&&": " and ", "||": " or ", "!": " not ", "->": "."}[found]
+
+    return C_WORDS.sub(word, BIT.sub(r"\1.bit\2", text))
+
+
+@dataclass(frozen=True)
+class Condition:
+    """A condition as it was written, the quantities in it by name, and what it comes to."""
+
+    text: str
+    quantities: tuple[Quantity, ...]
+    holds: Callable[[Values], bool]
+
+
+class Reader:
+    """Reads a condition on one node's quantities."""
+
+    def __init__(self, names: Names) -> None:
+        self.names = names
+        self.enumerators = enumerators_of(names)
+        self.found: dict[str, Quantity] = {}
+
+    def read(self, text: str) -> Condition:
+        """Raises BadInput where it is none, names what is not there, or is the same whatever the values are."""
+        shown = files.printable(text)
+        if len(text) > LONGEST:
+            raise BadInput(f"a condition has at most {LONGEST:,} letters")
+        try:
+            tree = ast.parse(of_python(text).strip(), mode="eval").body
+        except (SyntaxError, ValueError, MemoryError, RecursionError):
+            raise BadInput(f"`{shown}` is no condition such as `queued <= 3`") from None
+        self.found = {}
+        try:
+            term = self.term(tree, 0)
+        except RecursionError:
+            raise BadInput(f"`{shown}`: too deep") from None
+        if not self.found:
+            raise BadInput(f"`{shown}` names no variable and no register, so no run can change it")
+        found = Condition(text, tuple(self.found.values()), lambda values: bool(term(values)))
+        refuse_certain(found)
+        return found
+
+    def term(self, tree: ast.expr, depth: int) -> Term:
+        if depth > MOST_DEPTH:
+            raise BadInput("a condition is at most fifty parts deep")
+        if isinstance(tree, ast.Constant):
+            return constant(tree.value)
+        if isinstance(tree, ast.BoolOp):
+            return self.joined(tree, depth)
+        if isinstance(tree, ast.UnaryOp):
+            return self.unary(tree, depth)
+        if isinstance(tree, ast.Compare):
+            return self.compared(tree, depth)
+        if isinstance(tree, ast.BinOp) and type(tree.op) in OPERATIONS:
+            work, a, b = OPERATIONS[type(tree.op)], self.term(tree.left, depth + 1), self.term(tree.right, depth + 1)
+            return lambda values: work(a(values), b(values))
+        if isinstance(tree, (ast.Name, ast.Attribute, ast.Subscript)):
+            return self.named(spelled(tree))
+        raise BadInput(f"`{files.printable(ast.unparse(tree))}` has no place in a condition")
+
+    def joined(self, tree: ast.BoolOp, depth: int) -> Term:
+        terms = [self.term(one, depth + 1) for one in tree.values]
+        if isinstance(tree.op, ast.And):
+            return lambda values: int(all(term(values) for term in terms))
+        return lambda values: int(any(term(values) for term in terms))
+
+    def unary(self, tree: ast.UnaryOp, depth: int) -> Term:
+        term = self.term(tree.operand, depth + 1)
+        if isinstance(tree.op, ast.Not):
+            return lambda values: int(not term(values))
+        if isinstance(tree.op, ast.USub):
+            return lambda values: -term(values)
+        if isinstance(tree.op, ast.UAdd):
+            return term
+        flip = of_whole("~", lambda a, _: ~a)
+        return lambda values: flip(term(values), 0)
+
+    def compared(self, tree: ast.Compare, depth: int) -> Term:
+        terms = [self.term(one, depth + 1) for one in [tree.left, *tree.comparators]]
+        works = []
+        for one in tree.ops:
+            if type(one) not in COMPARISONS:
+                raise BadInput("a comparison is one of ==, !=, <, <=, >, >=")
+            works.append(COMPARISONS[type(one)])
+
+        def holds(values: Values) -> int:
+            numbers = [term(values) for term in terms]
+            return int(all(work(a, b) for work, a, b in zip(works, numbers, numbers[1:])))
+
+        return holds
+
+    def named(self, name: str) -> Term:
+        if name not in self.names.variables and name in self.enumerators:
+            number = self.enumerators[name]
+            return lambda values: number
+        if name not in self.names.variables and name in CONSTANTS:
+            number = CONSTANTS[name]
+            return lambda values: number
+        found = self.names.quantity(name)
+        self.found[found.name] = found
+        return lambda values: values[found.name]
+
+
+def refuse_certain(condition: Condition) -> None:
+    """Raises BadInput where a condition is the same whatever the values are, where these are few enough to try all."""
+    bits = [one.bits or 8 * one.size for one in condition.quantities]
+    if sum(bits) > MOST_BITS:
+        return
+    values = [[one.number(held) for held in every(one)] for one in condition.quantities]
+    names = [one.name for one in condition.quantities]
+    outcomes = {condition.holds(dict(zip(names, numbers))) for numbers in itertools.product(*values)}
+    if len(outcomes) == 1:
+        holds = "holds" if outcomes.pop() else "does not hold"
+        raise BadInput(f"`{files.printable(condition.text)}` {holds} whatever the values are")
+
+
+def every(one: Quantity) -> list[bytes]:
+    """All that the bytes of a quantity can be, with one spelling for each value."""
+    count = 1 << (one.bits or 8 * one.size)
+    return [(number << one.low_bit).to_bytes(one.size, "little") for number in range(count)]
+
+
+def constant(value: object) -> Term:
+    if isinstance(value, (int, float)):  # True and False, too, are 1 and 0
+        number: Number = value
+        return lambda values: number
+    if isinstance(value, str) and len(value) == 1 and ord(value) < 256:
+        code = ord(value)
+        return lambda values: code
+    raise BadInput(f"`{files.printable(str(value))[:40]}` is no number and no character")
+
+
+def spelled(tree: ast.expr) -> str:
+    """The name that a tree of members and elements spells."""
+    if isinstance(tree, ast.Name):
+        return tree.id
+    if isinstance(tree, ast.Attribute):
+        return f"{spelled(tree.value)}.{tree.attr}"
+    if isinstance(tree, ast.Subscript) and isinstance(tree.slice, ast.Constant) and isinstance(tree.slice.value, int):
+        return f"{spelled(tree.value)}[{tree.slice.value}]"
+    raise BadInput(f"`{files.printable(ast.unparse(tree))}` is no name: an element has a number, as `items[3]`")
