@@ -3,15 +3,20 @@ import argparse
 import heapq
 import itertools
 import sys
-from collections.abc import Mapping, Sequence
+from collections.abc import Iterator, Mapping, Sequence
 from typing import Final
 
 from avrora_tools import cli, programs, showing, traces
-from avrora_tools.errors import BadInput
+from avrora_tools.errors import BadInput, BadWords
 from avrora_tools.events import CLASH, Enter, Event, Heard, Instr, Sent, Serial, Stop
 from avrora_tools.hearing import Hearing
 from avrora_tools.instructions import SLEEP
+from avrora_tools.observing.quantities import Quantity, bare
+from avrora_tools.observing.running import Network, Observed, Run
+from avrora_tools.observing.settling import Moment
 from avrora_tools.scenarios import DEFAULT_TIME, Scenario
+from avrora_tools.states import EPOCH
+from avrora_tools.variables import Base, Enumeration
 
 SUMMARY = "waves for GTKWave"
 
@@ -24,11 +29,17 @@ DESCRIPTION = """Writes a trace as a value change dump (VCD, IEEE 1364), for GTK
               last; unknown outside of the window, where no instructions are traced
   function    with -e: the function that the instruction lies in
   stopped     1 from the node's stop on
-A time unit is a cycle, and a picosecond where --hz tells the clock. It takes a trace with its end rows, also one of
-`avrora resume` and of the tool window, or with --head the beginning of one."""
+With --watch, -s and -e there are variables and registers too, by their names: enumerations by the names of their
+values, floating-point numbers as real ones, each from the cycle behind its write on. The simulator runs for them once
+more. A time unit is a cycle, and a picosecond where --hz tells the clock. It takes a trace with its end rows, also one
+of `avrora resume` and of the tool window, or with --head the beginning of one."""
+
+REAL = "real"
+
+Kinds = Mapping[str, int | str]
 
 # The variables of a node: their widths in bits, or the kinds that VCD knows besides.
-VARIABLES: Final[Mapping[str, int | str]] = {
+VARIABLES: Final[Kinds] = {
     "sent": 1,
     "sent_byte": 8,
     "sample": "event",
@@ -52,13 +63,17 @@ OF_THE_WINDOW = ("pc", "asleep")  # unknown again behind it
 class Writer:
     """Writes changes in the order of time; some are known before their time."""
 
-    def __init__(self, nodes: Sequence[int], names: Mapping[int, str], hz: int | None) -> None:
+    def __init__(
+        self, nodes: Sequence[int], names: Mapping[int, str], hz: int | None, waves: Mapping[int, Kinds] | None = None
+    ) -> None:
+        """`waves` are kinds of further variables, by node and name."""
         self.picoseconds = 1e12 / hz if hz else None
+        self.kinds: dict[int, Kinds] = {node: {**VARIABLES, **(waves or {}).get(node, {})} for node in nodes}
         self.codes: dict[tuple[int, str], str] = {}
         self.now = 0
         self.later: list[tuple[int, int, int, str, int]] = []
         self.order = itertools.count()
-        self.values: dict[str, int | str | None] = {}
+        self.values: dict[str, int | float | str | None] = {}
         self.head(nodes, names)
 
     def head(self, nodes: Sequence[int], names: Mapping[int, str]) -> None:
@@ -67,15 +82,15 @@ class Writer:
         sys.stdout.write(f"{note}$timescale {unit} $end\n$scope module network $end\n")
         for node in nodes:
             sys.stdout.write(f"$scope module node{node}{showing.vcd_word(names[node]) if names[node] else ''} $end\n")
-            for name, width in VARIABLES.items():
+            for name, width in self.kinds[node].items():
                 code = self.codes[node, name] = code_of(len(self.codes))
-                kind = f"{width} 1" if isinstance(width, str) else f"wire {width}"
+                kind = f"{width} {64 if width == REAL else 1}" if isinstance(width, str) else f"wire {width}"
                 bits = f" [{width - 1}:0]" if isinstance(width, int) and width > 1 else ""
                 sys.stdout.write(f"$var {kind} {code} {name}{bits} $end\n")
             sys.stdout.write("$upscope $end\n")
         sys.stdout.write("$upscope $end\n$enddefinitions $end\n#0\n$dumpvars\n")
         for node in nodes:
-            for name, width in VARIABLES.items():
+            for name, width in self.kinds[node].items():
                 if isinstance(width, int):
                     self.put(node, name, 0 if name in KNOWN_FROM_THE_START else None)
         sys.stdout.write("$end\n")
@@ -93,15 +108,17 @@ class Writer:
             self.now = cycle
             sys.stdout.write(f"#{round(cycle * self.picoseconds) if self.picoseconds else cycle}\n")
 
-    def put(self, node: int, name: str, value: int | str | None) -> None:
+    def put(self, node: int, name: str, value: int | float | str | None) -> None:
         """Sets a variable now; None is an unknown value."""
-        width, code = VARIABLES[name], self.codes[node, name]
+        width, code = self.kinds[node][name], self.codes[node, name]
         if width == "event":
             sys.stdout.write(f"1{code}\n")
         elif code in self.values and self.values[code] == value:
             return
         elif width == "string":
             sys.stdout.write(f"s{showing.vcd_word(str(value))} {code}\n")
+        elif width == REAL:
+            sys.stdout.write(f"r{value!r} {code}\n")
         elif width == 1:
             sys.stdout.write(f"{'x' if value is None else value}{code}\n")
         else:
@@ -211,8 +228,66 @@ class Dump:
         put(node, "sample", 1)
 
 
+class Waves:
+    """Quantities of nodes as variables of the dump."""
+
+    def __init__(self, observed: Observed, network: Network) -> None:
+        self.observed, self.network = observed, network
+        self.kinds: dict[int, Kinds] = {
+            node: {showing.vcd_word(one.name): kind_of(one) for one in found}
+            for node, found in observed.quantities.items()
+        }
+
+    def begin(self, writer: Writer) -> None:
+        """The values at the beginning of the run."""
+        for (node, number), held in self.observed.values(self.observed.run.first).items():
+            one = self.observed.quantities[node][number]
+            writer.put(node, showing.vcd_word(one.name), self.value(node, one, held))
+
+    def value(self, node: int, one: Quantity, held: bytes) -> int | float | str:
+        kind = kind_of(one)
+        if kind == "string":
+            return one.shown(held, self.network.names(node).targets)
+        if kind == REAL:
+            return float(one.number(held))
+        return int.from_bytes(one.data(held), "little") & (1 << int(kind)) - 1
+
+    def moments(self) -> Iterator[tuple[int, Moment]]:
+        """Each new value, with the cycle from which on the node has it."""
+        run = self.observed.run
+        for moment in self.observed.moments(run.first, run.limit):
+            yield moment.cycle + 1, moment
+
+
+def kind_of(one: Quantity) -> int | str:
+    """A width in bits, or a kind of VCD."""
+    type_ = bare(one.type)
+    if isinstance(type_, Enumeration):
+        return "string"
+    if isinstance(type_, Base) and isinstance(one.number(bytes(one.size)), float):
+        return REAL
+    return one.bits or 8 * one.size
+
+
+def waves_of(
+    arguments: argparse.Namespace, scenario: Scenario | None, all_programs: programs.Programs, nodes: Sequence[int]
+) -> Waves | None:
+    if not arguments.watch:
+        return None
+    if scenario is None:
+        raise BadWords("--watch runs the scenario once more: name it (-s)")
+    network = Network(scenario, all_programs)
+    limit = arguments.head * EPOCH if arguments.head else scenario.cycles
+    run = Run.of(cli.simulator(arguments.avrora), arguments.scenario, min(limit, scenario.cycles))
+    return Waves(Observed(run, network.selected(arguments.watch, nodes)), network)
+
+
 def configure(parser: argparse.ArgumentParser) -> None:
     cli.describe(parser, DESCRIPTION, "vcd -s flood.toml flood.trace > flood.vcd")
+    cli.add_simulator(parser)
+    parser.add_argument(
+        "--watch", action="append", default=[], metavar="NAME", help="a variable or register, or a pattern: 'queue*'"
+    )
     programs.add_programs(parser)
     cli.add_nodes(parser)
     parser.add_argument("--byte-time", type=cli.positive, help="where no scenario tells it (%d)" % DEFAULT_TIME)
@@ -233,9 +308,18 @@ def run(arguments: argparse.Namespace) -> int:
     hearing = Hearing(scenario, trace.name) if scenario else None
     rows = iter(trace)
     first = next(rows)  # what is no trace leaves no front of a dump
-    writer = Writer(nodes, names, arguments.hz)
+    waves = waves_of(arguments, scenario, all_programs, nodes)
+    writer = Writer(nodes, names, arguments.hz, waves.kinds if waves else None)
     dump = Dump(writer, nodes, byte_time, scenario.window if scenario else None, all_programs)
+    changes: Iterator[tuple[int, Moment]] = iter(())
+    if waves:
+        waves.begin(writer)
+        changes = waves.moments()
+    waiting = next(changes, None)
     for cycle, node, event in itertools.chain([first], rows):
+        while waves and waiting and waiting[0] <= cycle:
+            put_change(writer, waves, waiting)
+            waiting = next(changes, None)
         all_programs.compare(node, event)
         if hearing:
             hearing.row(cycle, node, event)
@@ -243,6 +327,13 @@ def run(arguments: argparse.Namespace) -> int:
             dump.read(cycle, node, event)
     writer.finish()
     return 0
+
+
+def put_change(writer: Writer, waves: Waves, change: tuple[int, Moment]) -> None:
+    cycle, moment = change
+    writer.advance(cycle)
+    name = showing.vcd_word(moment.quantity.name)
+    writer.put(moment.node, name, waves.value(moment.node, moment.quantity, moment.held))
 
 
 def nodes_of(arguments: argparse.Namespace, scenario: Scenario | None) -> list[int]:
