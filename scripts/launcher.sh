@@ -11,6 +11,9 @@
 # The exit statuses that a launcher gives or explains; the program's own are below NOT_THERE.
 readonly NOT_WRITTEN=1 BAD_WORDS=2 CANNOT_READ=3 NO_MEMORY=6 NO_WORDS=9 NOT_THERE=10
 
+# The largest numbers that commands take: of epochs, of cycles of one node, of a sample network, and a cycle.
+readonly MOST_EPOCHS=9999999 MOST_CYCLES=10000000 MOST_NUMBER=65535 LAST_CYCLE=1099511627776
+
 # What the program takes for granted of a processor, by the names of /proc/cpuinfo: x86-64-v2 (pni is SSE3).
 readonly NEEDED_OF_PROCESSOR='cx16 lahf_lm pni popcnt sse4_1 sse4_2 ssse3'
 
@@ -80,6 +83,61 @@ explain() {
         "$NO_WORDS") echo 'avrora: a word of the command line is no UTF-8, or memory is refused (docs/FAULTS.md)' >&2 ;;
         *) explain_refusal "$2" ;;
     esac
+}
+
+# Sets `why` to what is wrong with a number of the command line, or to nothing: find_why WORD LEAST MOST
+find_why() {
+    local word=$1 least=$2 most=$3 digits
+    digits=${word//[_,.\']/}
+    why=
+    case $word in
+        0[xX]*) why='a number is decimal digits alone' ;;
+        [+-]*) why='a number has no sign' ;;
+        *[!0-9]* | '')
+            why='no number'
+            [[ $digits == *[!0-9]* || -z $digits ]] || why="a number is digits alone: $digits"
+            ;;
+        *) ((${#word} <= ${#most} && 10#$word <= most && 10#$word >= least)) || why="a number from $least to $most, of at most ${#most} digits" ;;
+    esac
+}
+
+# Says which word of a bad command line is wrong, where that is a number or a file: explain_words COMMAND WORD ..
+explain_words() {
+    local forms=() form why from=
+    case ${1-} in
+        monitor) forms=(file from to) ;;
+        head | save) forms=(file epochs file) ;;
+        look) forms=(file cycle file) ;;
+        node) forms=(file cycles) ;;
+        make) forms=(number) ;;
+        sniff | check | disasm | asm) forms=(file) ;;
+        run) [[ ${2-} == --plain ]] || forms=(file) ;;
+        resume | sweep) forms=(file file file) ;;
+    esac
+    shift || return 0
+    (($# <= ${#forms[@]})) || return 0
+    for form in "${forms[@]:0:$#}"; do
+        case $form in
+            file)
+                why=
+                [[ -n $1 ]] || why='an empty name'
+                [[ $1 != -* ]] || why="a name begins with no -: ./$1"
+                ;;
+            epochs) find_why "$1" 1 "$MOST_EPOCHS" ;;
+            cycles) find_why "$1" 1 "$MOST_CYCLES" ;;
+            number) find_why "$1" 0 "$MOST_NUMBER" ;;
+            *) find_why "$1" 0 "$LAST_CYCLE" ;;
+        esac
+        if [[ -z $why && $form == to ]] && ((10#$1 < 10#$from)); then
+            why="TO is below FROM, which is $from"
+        fi
+        if [[ -n $why ]]; then
+            echo "(${1@Q}: $why)" >&2
+            return
+        fi
+        from=$1
+        shift
+    done
 }
 
 # The row of FORMATS.md for the cause in a line, and what says where a scenario is at fault. A fault of a whole file has a
@@ -175,6 +233,7 @@ launch() {
         status=$?
     fi
     if [[ $status == "$BAD_WORDS" ]]; then
+        explain_words "$@"
         usage >&2
     fi
     exit "$status"

@@ -110,9 +110,11 @@ def with_program(program: str) -> str:
 
 
 def git(top: str, *words: str) -> str:
-    """What git says of a checkout."""
+    """What git says of a checkout, whatever repository a hook has in the environment."""
+    environment = {name: value for name, value in os.environ.items() if not name.startswith("GIT_")}
+    command = ["git", "-c", "core.fsmonitor=false", "-C", top, *words]
     try:
-        ran = subprocess.run(["git", "-C", top, *words], stdin=subprocess.DEVNULL, capture_output=True, text=True, check=False)
+        ran = subprocess.run(command, env=environment, stdin=subprocess.DEVNULL, capture_output=True, text=True, check=False)
     except OSError as fault:
         raise NotFit(f"the commit of this checkout is not known: git cannot be run ({fault.strerror})") from fault
     if ran.returncode:

@@ -184,6 +184,73 @@ class FirstRun(OfARepository):
         self.assertTrue(err.startswith("avrora: bad command line\nUsage: "))
         self.assertEqual(err.splitlines().count("avrora: bad command line"), 1)
 
+    def test_what_is_wrong_with_a_number_is_told(self):
+        """A word of a bad command line that is no number as FORMATS.md has it, or no name of a file; of all others nothing."""
+        most = "a number from 0 to 1099511627776, of at most 13 digits"
+        for words, told in (
+            ("monitor a 0 7_372_800", "'7_372_800': a number is digits alone: 7372800"),
+            ("monitor a 7,372,800 9", "'7,372,800': a number is digits alone: 7372800"),
+            ("look a 7.372.800", "'7.372.800': a number is digits alone: 7372800"),
+            ("monitor a 0 0x10", "'0x10': a number is decimal digits alone"),
+            ("monitor a +1 5", "'+1': a number has no sign"),
+            ("make -1", "'-1': a number has no sign"),
+            ("node a 1e6", "'1e6': no number"),
+            ("node a _", "'_': no number"),
+            ("monitor a 9 08", "'08': TO is below FROM, which is 9"),
+            ("monitor a 0 1099511627777", f"'1099511627777': {most}"),
+            ("look a 00000000000001", f"'00000000000001': {most}"),
+            ("look a 10995116277770 b", f"'10995116277770': {most}"),
+            ("head a 0", "'0': a number from 1 to 9999999, of at most 7 digits"),
+            ("save a 10000000 b", "'10000000': a number from 1 to 9999999, of at most 7 digits"),
+            ("node a 10000001", "'10000001': a number from 1 to 10000000, of at most 8 digits"),
+            ("make 65536", "'65536': a number from 0 to 65535, of at most 5 digits"),
+            ("save a 1 -b", "'-b': a name begins with no -: ./-b"),
+            ("check -a", "'-a': a name begins with no -: ./-a"),
+            ("make \x1b[31m", "$'\\E[31m': no number"),
+            ("monitor a 08 9", ""),
+            ("monitor a 0 1099511627776", ""),
+            ("node a 09999999", ""),
+            ("node a 10000000", ""),
+            ("make 08", ""),
+            ("run --plain a", ""),
+            ("monitor a 1 2 3", ""),
+            ("resume a", ""),
+            ("bad", ""),
+            ("", ""),
+        ):
+            script = 'called= own_help= notice= formats=; . "$1"; shift; explain_words "$@"'
+            run = ["bash", "-uc", script, "bash", TOP / "scripts/launcher.sh", *words.split()]
+            said = subprocess.run(run, capture_output=True, text=True, check=True).stderr
+            self.assertEqual(said, f"({told})\n" if told else "", words)
+
+    def test_what_is_wrong_stands_above_the_usage(self):
+        fake = self.top.parent / "refusing"
+        fake.write_text("#!/bin/sh\necho 'avrora: bad command line' >&2\nexit 2\n")
+        fake.chmod(0o755)
+        script = 'called= own_help= notice= formats=; . "$1"; own_words() { :; }; find_program() { program=$FAKE; }; shift; launch "$@"'
+        run = ["bash", "-c", script, "bash", TOP / "scripts/launcher.sh", "node", "a", "1_000"]
+        said = subprocess.run(run, env={**self.environment, "FAKE": str(fake)}, stdin=subprocess.DEVNULL, capture_output=True, text=True, check=False)
+        self.assertEqual(said.stderr.splitlines()[:2], ["avrora: bad command line", "('1_000': a number is digits alone: 1000)"])
+        self.assertEqual(said.returncode, 2)
+
+    def test_the_version_is_of_no_other_repository(self):
+        """Neither of one that a hook has in the environment, nor of one in which this folder lies; and no program of its settings runs."""
+        other, spy = self.top.parent, self.top.parent / "spy"
+        spy.write_text(f"#!/bin/sh\n: >{other}/ran\n")
+        spy.chmod(0o755)
+        for folder in (other, self.top):
+            for words in (["init", "-q"], ["config", "core.fsmonitor", str(spy)], ["add", "-A", "-f", "."], ["commit", "-q", "-m", folder.name]):
+                names = ["-c", "user.name=a", "-c", "user.email=a@b", "-c", "core.fsmonitor=false"]
+                subprocess.run(["git", "-C", folder, *names, *words], check=True, capture_output=True)
+        own, there = (subprocess.run(["git", "-C", it, "rev-parse", "--short", "HEAD"], check=True, capture_output=True, text=True).stdout.strip() for it in (self.top, other))
+        said = self.ended("--version", GIT_DIR=f"{other}/.git", GIT_WORK_TREE=str(other))[1]
+        self.assertEqual(said.splitlines()[0].split("-")[0], f"avrora {own}")
+        shutil.rmtree(self.top / ".git")
+        said = self.ended("--version")[1]
+        self.assertEqual(said.splitlines()[0], "avrora of no commit")
+        self.assertNotIn(there, said)
+        self.assertFalse((other / "ran").exists())
+
     def on_a_terminal(self, *words):
         """What stands on a terminal after a call, and its status."""
         try:

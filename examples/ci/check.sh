@@ -39,7 +39,7 @@ absolute() {
     esac
 }
 
-# Whether a link is on the way to OUT, from here or, of another absolute name, at its end.
+# Whether a link is on the way to a folder, from here or, of another absolute name, at its end.
 has_link() {
     part=${1%/}
     case $part in
@@ -56,16 +56,26 @@ has_link() {
     return 1
 }
 
-# Programs are looked for where the environment says so by whole names, and never in a folder that is checked.
-path=
-rest=$PATH:
-while [ "$rest" ]; do
-    case $rest in
-        /*) path=$path${path:+:}${rest%%:*} ;;
-    esac
-    rest=${rest#*:}
-done
-PATH=$path
+# The entries of a list like PATH that are whole names: an empty one, or one from here, may be a folder that is checked.
+whole_names() {
+    kept=
+    rest=$1:
+    while [ "$rest" ]; do
+        case $rest in
+            /*) kept=$kept${kept:+:}${rest%%:*} ;;
+        esac
+        rest=${rest#*:}
+    done
+    printf '%s\n' "$kept"
+}
+
+# Programs, libraries and modules are looked for where the environment says so by whole names, and never in a folder that is
+# checked.
+PATH=$(whole_names "$PATH")
+LD_LIBRARY_PATH=$(whole_names "${LD_LIBRARY_PATH-}")
+PYTHONPATH=$(whole_names "${PYTHONPATH-}")
+export PATH LD_LIBRARY_PATH PYTHONPATH
+unset COMPILER_PATH GCC_EXEC_PREFIX
 
 seconds=600
 if [ "${1-}" = --timeout ]; then
@@ -99,6 +109,9 @@ done
 
 if [ $# -lt 1 ] || [ $# -gt 2 ] || [ ! -d "$1" ]; then
     usage
+fi
+if has_link "$1"; then
+    end 2 "$1: a link; name the folder that it leads to"
 fi
 folder=$(absolute "$1")
 out=${2:-build}

@@ -136,7 +136,7 @@ def read_case(path: str) -> Case:
     text = files.read_text(path)
     if "\0" in text:
         raise BadInput(f"{name}: no text")
-    for number, line in enumerate(text.splitlines(), 1):
+    for number, line in enumerate(text.split("\n"), 1):  # no other mark ends a comment
         line = without_comment(line).strip()
         words = line.split()
         try:

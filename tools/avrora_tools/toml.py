@@ -279,4 +279,6 @@ def statements(text: str) -> Iterator[list[Token]]:
 
 def bare(key: str) -> str:
     """A key without quotes."""
+    if key[:1] == '"' and "\\" in key:
+        return str(loads(f"key = {key}")["key"])
     return key[1:-1] if key[:1] in ('"', "'") and key[-1:] == key[:1] else key

@@ -43,7 +43,7 @@ latency = int(latency[0])
 print(f"{{latency}} 0 sent AA\\n{{latency + 9}} 1 heard 1 AA 0\\n5000 0 end 10 running\\n5000 1 end 10 running")
 """
 
-SECONDS = 60  # that no call takes, on a busy machine
+SECONDS = 300  # that no call takes, on a busy machine
 
 # What is called, in the repository or from elsewhere: @ is the repository.
 CALLS = [
@@ -63,6 +63,16 @@ CALLS = [
     "export callgrind -s @relay.toml --force -e @relay.elf -o @out @relay.trace",
     "export lcov -s @relay.toml --force -e @relay.elf @relay.trace",
     "export perfetto -s @net.toml -o @out.html @net.trace",
+    "export pcapng --bytes -s @net.toml -o @out.xml @net.trace",
+    "export pcapng -s @net.toml -o @deep/../out @net.trace",
+    "export folded -s @relay.toml --force -e @relay.elf @relay.trace",
+    "export speedscope -s @relay.toml --force -e @relay.elf -o @out.html @relay.trace",
+    "export lcov --force -e @relay.elf -o @build @relay.trace @net.trace",
+    "export csv -o @golden.rows @net.trace",
+    "gdb @net.toml",
+    "gdb --state @net.state --at 300_000 @net.toml",
+    "energy @relay.toml @net.toml @net.trace",
+    "mknet --places @net.toml line @relay.hex*3",
     "vcd -s @relay.toml --force -e 0=@relay.elf @relay.trace",
     "inspect -g * -e @relay.elf @net.state",
     "links --map @out.svg @net.toml @net.trace",
@@ -208,6 +218,8 @@ def run(count=COUNT, seed=SEED, first=FIRST, tell=print):
 
 
 if __name__ == "__main__":
+    if sys.argv[1:2] in (["--help"], ["-h"]):
+        sys.exit(print(__doc__))
     found = run(*(int(word) for word in sys.argv[1:4]))
     print(f"{found} findings")
     sys.exit(found > 0)

@@ -129,6 +129,17 @@ def test_a_link_on_the_way_to_out(place, words):
     assert (status, out) == (2, "") and err.endswith(": a link, and what is written follows none\n")
 
 
+@pytest.mark.parametrize("words", [["out", "made"], ["out/", "made"], ["out/deep", "made"], ["@/out", "made"]])
+def test_a_link_for_the_folder(place, words):
+    """What a link of the folder leads to would be copied to OUT, which a pipeline may hand out."""
+    (place / "home" / "deep").mkdir()
+    os.symlink("home", place / "out")
+    status, out, err = check(place, *(word.replace("@", str(place)) for word in words))
+    os.rmdir(place / "home" / "deep")
+    assert (status, out) == (2, "") and err.endswith(": a link; name the folder that it leads to\n")
+    assert not (place / "made").exists()
+
+
 def test_an_out_of_the_users(place):
     assert check(place, "mine", "home") == (2, "", "check.sh: home: it is not empty, and of no earlier call\n")
 
@@ -164,6 +175,18 @@ def test_programs_of_the_folder_are_not_run(place):
         f"mine:{os.environ['PATH']}",
     ):
         assert check(place, PATH=path, CDPATH=f"{place}/mine:.")[0] in (0, 1)
+
+
+def test_modules_and_parts_of_the_compiler_are_not_those_of_the_folder(place):
+    """An empty entry of these variables, as `$NAME:/other` leaves one, is the folder that is checked."""
+    for name in ("cc1", "as", "ld", "collect2"):
+        write_spy(place / "mine" / name)
+    for name in ("sitecustomize", "json", "tempfile", "argparse"):
+        (place / "mine" / f"{name}.py").write_text("import os\nopen(os.environ['RAN'], 'w').close()\n")
+    for value in (":", ".", "/nowhere:", ":/nowhere"):
+        variables = dict.fromkeys(("PYTHONPATH", "COMPILER_PATH", "LD_LIBRARY_PATH"), value)
+        assert check(place, **variables)[0] == 0
+        assert not (place / "ran").exists(), value
 
 
 def test_precompiled_headers(place):

@@ -77,6 +77,13 @@ class Met(unittest.TestCase):
         self.met("only stop", "*", "count == 1: *", "count > 0: *")
         self.fails("only sent", "* * *", "*", "*", "*")
 
+    def test_a_comment_ends_at_a_line_feed_alone(self):
+        """What an editor shows as a comment is one, whatever other ends of lines Python knows."""
+        no_row = "line 3: this row did not come:\n- * 0 serial 73\nand none of its node and kind"
+        for mark in "\u2028\u2029\x85\x0b\x0c\x1c\r":
+            self.met("10 0 sent 72", f"# a remark{mark}never * 0 sent *", "70 1 serial 65")
+            self.unmet("# a", f"# b{mark}", "* 0 serial 73", says=no_row)
+
     def test_cycles_since_the_row_before(self):
         self.met("10 0 sent 72", "+20 1 heard *", "+0..10 1 serial 72", "+10+-0 1 sent *")
         self.fails("10 0 sent 72", "+0..19 1 heard *")

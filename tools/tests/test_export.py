@@ -182,6 +182,29 @@ def test_folded_and_speedscope_have_the_same_cycles():
 
 
 @pyelftools
+def test_names_that_would_mean_something():
+    """In callgrind's format a number in brackets stands for another name, in a folded stack a ; for the next function."""
+    with open(ELF, "rb") as file:
+        content = file.read().replace(b"__vector_15\0", b"(7);ab;wxyz\0").replace(b"relay.c\0", b"(2)ay.c\0")
+    with scratch("relay.elf", content) as path:
+        words = (RELAY[0], "--force", "-e", path, RELAY[-1])
+        text = exported("callgrind", *words)
+        assert r"fn=\x287);ab;wxyz" in text.splitlines() and not re.search(r"^c?f[nlie]i?=\(", text, re.M)
+        stacks = {line.rsplit(" ", 1)[0] for line in exported("folded", *words).splitlines()}
+        assert {name for line in stacks for name in line.split(";")[1:]} == {"TIMER0_COMP_vect", "(7):ab:wxyz"}
+
+
+def test_an_image_named_to_move_a_cursor():
+    """capinfos and tshark show the description of an interface as it is."""
+    text = data("packet.toml").replace('"packet.hex"', '"\\u001b[2J\\u202e\\r.hex"')
+    with scratch("net.toml", text) as scenario, scratch("packet.pcapng") as path:
+        exported("pcapng", "-s", scenario, "-o", path, f"{DATA}/packet.trace")
+        with open(path, "rb") as file:
+            content = file.read()
+        assert rb"\x1B[2J\u202E\x0D.hex" in content and b"\x1b[" not in content
+
+
+@pyelftools
 def test_lcov_has_what_ran():
     text = exported("lcov", *RELAY)
     found = {}

@@ -14,8 +14,9 @@ import threading
 import pytest
 
 from support import LONG, LOOPBACK, TOOL, TOP, has_loopback, needs_program
-from avrora_tools import cli
+from avrora_tools import cli, images
 from avrora_tools.debugging import history, packets, session, target
+from avrora_tools.errors import BadInput
 
 PROGRAM = os.environ.get(cli.PROGRAM_VARIABLE)
 TOP_EXAMPLES = pathlib.Path(TOP) / "examples"
@@ -303,6 +304,57 @@ def test_nothing_can_be_written(folder):
     said = gdb(folder, "set var got = 9", "print got", "set var $r24 = 7", "print $r24", at=300_000)
     assert re.search("Cannot access memory|a run is a fact", said)
     assert "$1 = 3" in said
+
+
+NO_PACKETS = """m m0 mzz,4 m-5,5 m800000,-1 m0,11111111111111111 p pzz Z0 Z0, Z0,zz,2 z1,5 Hgzz Tx T vCont vCont; vCont;q
+vCont;s:zz vCont;r5:1 qThreadExtraInfo, qThreadExtraInfo,zz qRcmd,zz qRcmd,6 qXfer:threads:read::
+qXfer:threads:read::x,y qXfer:memory-map:read::0""".split()
+
+
+@pytest.mark.skipif(not PROGRAM, reason="needs a program (AVRORA_PROGRAM)")
+def test_what_no_gdb_sends_is_an_error_and_no_end(past):
+    """Whoever may connect to the port sends what he likes; the gdb that comes next finds the tool as it was."""
+    one = session.Session(past, packets.Channel(-1, -1))
+    for packet in NO_PACKETS:
+        assert one.answered(packet.encode()) == session.MALFORMED, packet
+    assert one.answered(b"vCont;\xff") == session.MALFORMED
+    before = one.at
+    for words in ("goto " + "9" * 5_000, "goto 1" + "_" * 5_000, "next sent of " + "9" * 5_000, "next sent of \u0663"):
+        said = bytes.fromhex(one.answered(b"qRcmd," + words.encode().hex().encode()).decode()).decode()
+        assert "no cycle" in said or "no node" in said
+    assert one.at == before
+
+
+@pytest.mark.skipif(not PROGRAM, reason="needs a program (AVRORA_PROGRAM)")
+def test_a_name_of_a_bookmark_moves_no_cursor(past):
+    one = session.Session(past, packets.Channel(-1, -1))
+    for words in ("bookmark \x1b[2J", "bookmark"):
+        said = bytes.fromhex(one.answered(b"qRcmd," + words.encode().hex().encode()).decode()).decode()
+        assert r"\x1B[2J: " in said and "\x1b" not in said
+
+
+@pytest.mark.skipif(not PROGRAM, reason="needs a program (AVRORA_PROGRAM)")
+@pytest.mark.parametrize("name", ["packet.hex", "packet.toml"])
+def test_a_file_that_changes_meanwhile_is_told(folder, tmp_path, name):
+    """What was kept is of the run before, and what is asked anew would be of another one."""
+    for one in ("packet.hex", "packet.toml"):
+        shutil.copy(folder / one, tmp_path)
+    with history.history(f"{tmp_path}/packet.toml", PROGRAM) as past:
+        past.state(100)
+        with open(tmp_path / name, "a", encoding="utf-8") as file:
+            file.write("\n")
+        with pytest.raises(BadInput, match=f"{name} changed since this began"):
+            past.state(200)
+        with pytest.raises(BadInput, match="changed since"):
+            session.Session(past, packets.Channel(-1, -1))
+
+
+@pytest.mark.skipif(not PROGRAM, reason="needs a program (AVRORA_PROGRAM)")
+def test_an_image_may_be_named_from_the_root(folder, tmp_path):
+    text = (folder / "packet.toml").read_text()
+    (tmp_path / "net.toml").write_text(text.replace('"packet.hex"', f'"{folder}/packet.hex"'))
+    with history.history(f"{tmp_path}/net.toml", PROGRAM) as past:
+        assert len(session.Session(past, packets.Channel(-1, -1)).flashes[0]) == images.FLASH_BYTES
 
 
 @needs_all

@@ -172,6 +172,20 @@ class Window(unittest.TestCase):
             {"cycles": 4, "window": [3, 4], "node": [{"image": "x"}], "link": [{"from": 0}]},
         )
 
+    def test_keys_with_escapes(self):
+        text = 'version = 3\n"cycl\\u0065s" = 100\n"\\x77indow" = [1, 2]\n'
+        self.assertEqual(
+            tomllib.loads(window.windowed(text, 3, 4)), {"version": 3, "cycles": 4, "window": [3, 4]}
+        )
+
+    def test_a_comment_ends_at_a_line_feed_alone(self):
+        """Python has more line ends than TOML: what stands behind one of them in a comment is no statement."""
+        for mark in "\u2028\u2029\x85":
+            text = f"cycles = 100\n# {mark}latency = 5\nlatency = 7 # {mark}[[link]]\n"
+            self.assertEqual(
+                tomllib.loads(window.windowed(text, 3, 4)), {"cycles": 4, "window": [3, 4], "latency": 7}, ascii(mark)
+            )
+
     def test_no_window(self):
         for first, end in (("5", "5"), ("0", "20001"), ("0", "90001"), ("89000", "90001"), ("7", "6")):
             status, out, err = run_tool("window", "--avrora", "/nowhere", f"{DATA}/relay.toml", first, end)

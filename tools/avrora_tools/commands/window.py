@@ -23,7 +23,7 @@ or the simulator refuses something; 3: the simulator fails."""
 
 def windowed(text: str, first: int, end: int) -> str:
     """The scenario's text with another cycle limit and window."""
-    lines = text.splitlines()
+    lines = text.split("\n")  # the line ends that TOML has, and none of the others that Python knows
     name = ""
     for tokens in toml.statements(text):
         words = [word for word, _ in tokens]
@@ -32,7 +32,7 @@ def windowed(text: str, first: int, end: int) -> str:
         elif not name and toml.bare(words[0]) in ("cycles", "window") and words[1:2] == ["="]:
             for number in range(tokens[0][1], tokens[-1][1] + 1):
                 lines[number - 1] = ""
-    return f"cycles = {end}\nwindow = [{first}, {end}]\n" + "\n".join(lines) + "\n"
+    return f"cycles = {end}\nwindow = [{first}, {end}]\n" + "\n".join(lines)
 
 
 def configure(parser: argparse.ArgumentParser) -> None:

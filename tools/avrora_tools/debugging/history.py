@@ -76,11 +76,15 @@ class History:
         self.simulator, self.own = simulator, folder
         self.place = os.path.dirname(os.path.abspath(scenario))
         self.path = os.path.abspath(scenario)
+        marks = {self.path: mark_of(self.path)}
         self.text = files.read_text(scenario).removeprefix(toml.BYTE_ORDER_MARK)
         self.scenario = Scenario.of_text(self.text, files.shown(scenario))
         self.limit, self.nodes = self.scenario.cycles, len(self.scenario.images)
-        self.first = State.load(state).cycle if state else 0
         self.state_file = os.path.abspath(state) if state else None
+        named = [os.path.join(self.place, image) for image in self.scenario.images]
+        # What the run is of: each file as it was at first.
+        self.marks = marks | {path: mark_of(path) for path in [*named, *filter(None, [self.state_file])]}
+        self.first = State.load(state).cycle if state else 0
         self.calls = 0
         # Asked between two spans of a search, which ends where it says so.
         self.wants_stop: Callable[[], bool] | None = None
@@ -93,6 +97,12 @@ class History:
 
     # ---- the simulator
 
+    def refuse_changes(self) -> None:
+        """Raises BadInput where a file of the run is another one than at first: what was kept is of the run before."""
+        for path, mark in self.marks.items():
+            if mark_of(path) != mark:
+                raise BadInput(f"{files.shown(path)} changed since this began: start `avrora-tools gdb` again")
+
     def run(self, *words: str) -> bytes:
         """What the simulator writes. Raises BadInput where it refuses something, CannotWork where it fails."""
         self.calls += 1
@@ -102,6 +112,7 @@ class History:
             )
         except OSError as fault:
             raise CannotWork(f"cannot run {files.shown(self.simulator)}: {fault.strerror}") from None
+        self.refuse_changes()
         if done.returncode:
             said = files.printable((done.stderr.decode("utf-8", "replace").strip().splitlines() or [""])[-1])
             raised = BadInput if done.returncode in REFUSED else CannotWork
@@ -275,6 +286,19 @@ class History:
         """The events before a cycle, the last first."""
         for epoch in range(min(cycle, self.limit - 1) // EPOCH, self.first // EPOCH - 1, -1):
             yield from (row for row in reversed(self.events(epoch)) if row.cycle < cycle)
+
+
+# The place, size and times of a file; None where there is none.
+Mark = tuple[int, int, int, int] | None
+
+
+def mark_of(path: str) -> Mark:
+    """What tells whether a file was changed or replaced."""
+    try:
+        found = os.stat(path)
+    except (OSError, ValueError):  # ValueError: a name that no file has
+        return None
+    return found.st_ino, found.st_size, found.st_mtime_ns, found.st_ctime_ns
 
 
 def spans(end: int, length: int) -> int:

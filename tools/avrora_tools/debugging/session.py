@@ -1,4 +1,5 @@
 """One gdb: where it stands in the run, and what it asks."""
+import os
 import re
 from collections.abc import Callable, Iterator
 from typing import NamedTuple
@@ -21,6 +22,23 @@ SUPPORTED = (
 
 FIXED = b"E.a run is a fact: nothing of it can be changed"
 NO_ANSWER = b""  # of what this does not know
+MALFORMED = b"E.malformed packet"
+
+# What stands behind the first letters of packets: numbers of at most 64 bits in hexadecimal digits.
+NUMBER = rb"[0-9a-fA-F]{1,16}"
+THREAD = rb"(?:-1|%s)" % NUMBER
+FORMS = {
+    b"qXfer:memory-map:read::": rb"%s,%s" % (NUMBER, NUMBER),
+    b"qXfer:threads:read::": rb"%s,%s" % (NUMBER, NUMBER),
+    b"qThreadExtraInfo,": NUMBER,
+    b"qRcmd,": rb"(?:[0-9a-fA-F]{2})*",
+    b"vCont": rb"(?:;[cCsS][0-9a-fA-F]*(?::%s)?|;r%s,%s(?::%s)?)+" % (THREAD, NUMBER, NUMBER, THREAD),
+    b"p": NUMBER,
+    b"m": rb"%s,%s" % (NUMBER, NUMBER),
+    b"H": rb"[a-z](?:%s)?" % THREAD,
+    b"T": NUMBER,
+    **dict.fromkeys((b"Z0", b"Z1", b"z0", b"z1"), rb",%s,%s.*" % (NUMBER, NUMBER)),
+}
 
 # Behind so many rows a step looks whether gdb asks it to stop.
 ROWS_A_LOOK = 256
@@ -64,7 +82,8 @@ class Session:
         # Where gdb stood before it took its breakpoints out for one step: those of other nodes may have been passed by.
         self.unseen: Place | None = None
         self.shows_interrupts = False
-        self.flashes = [images.load(f"{history.place}/{image}") for image in history.scenario.images]
+        history.refuse_changes()
+        self.flashes = [images.load(os.path.join(history.place, image)) for image in history.scenario.images]
         self.words = Words(self)
         self.answers: list[tuple[bytes, Callable[[bytes], bytes | None]]] = [
             (b"qSupported", lambda _: SUPPORTED.encode()),
@@ -123,7 +142,8 @@ class Session:
     def answered(self, packet: bytes) -> bytes | None:
         for begins, answer in self.answers:
             if packet.startswith(begins):
-                return answer(packet)
+                form = FORMS.get(begins, rb".*")
+                return answer(packet) if re.fullmatch(form, packet[len(begins) :], re.DOTALL) else MALFORMED
         return NO_ANSWER
 
     def stop_acknowledging(self, _: bytes) -> None:

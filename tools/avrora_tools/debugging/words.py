@@ -28,6 +28,9 @@ examples/avrora.gdb has these words as commands of gdb that see to it."""
 
 EVENTS = ("sent", "heard", "clash", "serial", "stop", "interrupt")
 
+# A cycle, whose digits may be grouped, and a node, as they are typed.
+CYCLE, NODE = "[0-9][0-9_,]{0,29}", "[0-9]{1,2}"
+
 # So much of a console is shown.
 SHOWN_BYTES = 2_000
 
@@ -71,7 +74,7 @@ class Words:
             raise Refused("goto CYCLE, or goto NAME of a bookmark")
         cycle = self.bookmarks.get(words[0])
         if cycle is None:
-            if not re.fullmatch("[0-9][0-9_,]*", words[0]):
+            if not re.fullmatch(CYCLE, words[0]):
                 raise Refused(f"{printable(words[0])} is no cycle, and no bookmark")
             cycle = int(re.sub("[_,]", "", words[0]))
         if cycle > self.session.history.limit:
@@ -90,7 +93,7 @@ class Words:
 
     def bookmark(self, words: list[str]) -> str:
         if len(words) != 1:
-            return "\n".join(f"{name}: cycle {cycle:,}" for name, cycle in self.bookmarks.items()) or "no bookmark"
+            return "\n".join(f"{printable(name)}: cycle {cycle:,}" for name, cycle in self.bookmarks.items()) or "no bookmark"
         self.bookmarks[words[0]] = self.session.at.cycle
         return f"{printable(words[0])}: {self.here()}"
 
@@ -118,7 +121,7 @@ class Words:
     def of_node(self, words: list[str]) -> tuple[list[str], int | None]:
         if len(words) < 2 or words[-2] != "of":
             return words, None
-        if not words[-1].isdecimal() or int(words[-1]) not in self.session.nodes():
+        if not re.fullmatch(NODE, words[-1]) or int(words[-1]) not in self.session.nodes():
             raise Refused(f"{printable(words[-1])} is no node: they are 0 to {self.session.history.nodes - 1}")
         return words[:-2], int(words[-1])
 

@@ -1,5 +1,6 @@
 """Costs by function, line, instruction and caller in callgrind's format, for KCachegrind and callgrind_annotate."""
 import collections
+import re
 from collections.abc import Iterator, Mapping
 
 from avrora_tools import programs
@@ -7,6 +8,11 @@ from avrora_tools.exports.walking import Calls, CallSite, Cost, NodeCosts
 
 # What stands for a file that is not known, and its line.
 NO_FILE, NO_LINE = "???", 0
+
+
+def plain(name: str) -> str:
+    """A name as it is meant: one that begins with a number in brackets would stand for another name."""
+    return re.sub(r"^\((?=[0-9]+\))", r"\\x28", name)
 
 
 class Place:
@@ -17,7 +23,7 @@ class Place:
 
     def file(self, word: int) -> str:
         found = self.program.source_line_at(word) if self.program else None
-        return found.path if found else NO_FILE
+        return plain(found.path) if found else NO_FILE
 
     def line(self, word: int) -> int:
         found = self.program.source_line_at(word) if self.program else None
@@ -62,7 +68,7 @@ def functions(node: int, costs: NodeCosts, place: Place) -> Iterator[str]:
         yield ""
         file = place.file(entries[name])
         yield f"fl={file}"
-        yield f"fn={name}"
+        yield f"fn={plain(name)}"
         for word, cost in sorted(words[name].items()):
             yield from at_file(file, place.file(word), f"0x{2 * word:x} {place.line(word)} {cost.cycles} {cost.count}")
         for (_, site, callee), calls in sorted(sites[name].items(), key=lambda item: item[0][1:]):
@@ -71,7 +77,7 @@ def functions(node: int, costs: NodeCosts, place: Place) -> Iterator[str]:
                 yield f"fi={place.file(site)}"
             yield f"cob={place.object(node)}"
             yield f"cfi={place.file(entry)}"
-            yield f"cfn={callee}"
+            yield f"cfn={plain(callee)}"
             yield f"calls={calls.count} 0x{2 * entry:x} {place.line(entry)}"
             yield f"0x{2 * site:x} {place.line(site)} {calls.cycles} {calls.instructions}"
             if place.file(site) != file:

@@ -19,7 +19,8 @@ def folded(costs: Mapping[int, NodeCosts], with_sleep: bool) -> Iterator[str]:
     """A line a call stack: the node and its functions, the outermost first, and the cycles."""
     for node, one in sorted(costs.items()):
         for path, cycles in paths_of(one, with_sleep):
-            yield f"{';'.join((f'node {node}', *path))} {cycles}"
+            names = (name.replace(";", ":") for name in path)  # a ; begins the next function
+            yield f"{';'.join((f'node {node}', *names))} {cycles}"
 
 
 def speedscope(costs: Mapping[int, NodeCosts], with_sleep: bool, title: str, version: str, hz: int | None) -> str:

@@ -12,6 +12,7 @@ from collections.abc import Iterable, Iterator, Sequence
 from avrora_tools.events import CLASH, Heard, Sent
 from avrora_tools.exports.frames import Finder, Frame, SentByte
 from avrora_tools.scenarios import Air, OnAir, Scenario, is_open
+from avrora_tools.showing import printable
 from avrora_tools.traces import TraceRow
 
 # Types of blocks and options (IETF draft-ietf-opsawg-pcapng).
@@ -46,7 +47,7 @@ def heads(scenario: Scenario, version: str) -> Iterator[bytes]:
     yield block(SECTION, struct.pack("<IHHq", BYTE_ORDER, 1, 0, -1) + options)
     for node, image in enumerate(scenario.images):
         options = option(INTERFACE_NAME, f"node {node}".encode())
-        options += option(INTERFACE_DESCRIPTION, image.encode("utf-8", "backslashreplace"))
+        options += option(INTERFACE_DESCRIPTION, printable(image).encode())
         options += option(INTERFACE_RESOLUTION, bytes([NANOSECONDS])) + option(END_OF_OPTIONS, b"")
         yield block(INTERFACE, struct.pack("<HHI", USER0, 0, LONGEST_PACKET) + options)
 
