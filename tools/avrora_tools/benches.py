@@ -15,10 +15,11 @@ import time
 from collections.abc import Iterator, Sequence
 from typing import Any, BinaryIO, cast
 
-from avrora_tools import calling, cases, comparisons, expectations, outputs, runs
+from avrora_tools import calling, cases, comparisons, expectations, outputs, predicates, runs
 from avrora_tools.errors import ToolError
 from avrora_tools.outputs import Ends
-from avrora_tools.runs import BROKEN, FAILED, PASSED, PROGRAM, REFUSED, SCENARIO, Answer, Job, ShippedCase, Shipment, Sick, answer
+from avrora_tools.runs import BROKEN, FAILED, PASSED, PROGRAM, REFUSED, SCENARIO
+from avrora_tools.runs import Answer, Job, ShippedCase, ShippedFile, Shipment, Sick, answer
 
 # The files of a run, and the folder of the scenario and the images of one with images of its own.
 TRACE, OUTPUT, OWN = "trace", "output", "own"
@@ -47,6 +48,7 @@ class Bench:
         self.shipment, self.place = shipment, place
         self.folder = ""
         self.cases: dict[int, list[cases.Case]] = {}
+        self.predicates: dict[str, predicates.Predicate] = {}
         self.images: dict[str, bytes] = {}  # that are in the folder of a run's own
         self.head: tuple[tuple[str, int], bytes] = (("", 0), b"")  # of a scenario's first epochs: their rows
         self.state_name = SWEPT_STATE
@@ -100,10 +102,15 @@ class Bench:
         sick = None
         begun = time.monotonic()
         places = itertools.count()
-        for _, alike in itertools.groupby(jobs, lambda job: repr(job[:2]) + str(job[3][0]) if job[3] else str(next(places))):
+        jobs = [Job(*job) for job in jobs]  # dask's own protocol makes lists of tuples
+
+        def made_together(job: Job) -> str:
+            return repr(job[:2]) + str(job.moves[0]) if job.moves else str(next(places))
+
+        for _, alike in itertools.groupby(jobs, made_together):
             group = list(alike)
             try:
-                answers += self.swept(group) if group[0][3] else [self.run(group[0])]
+                answers += self.swept(group) if group[0].moves else [self.run(group[0])]
             except Sick as fault:
                 sick = str(fault)
                 break
@@ -136,7 +143,7 @@ class Bench:
             else:
                 self.trace.write(rows)
                 found = self.checked_swept(job, place)
-            if found["outcome"] in (FAILED, REFUSED) or job[2]:
+            if found["outcome"] in (FAILED, REFUSED) or job.images:
                 self.confirm(job, place)
             keeps = self.shipment.traces
             if keeps == "all" or keeps == "failed" and found["outcome"] in (FAILED, BROKEN):
@@ -175,13 +182,13 @@ class Bench:
 
     def swept_rows(self, jobs: Sequence[Job]) -> list[bytes] | None:
         """The rows of each of such jobs, behind those that all have; None where the simulator refuses something."""
-        scenario, _, _, moves = jobs[0]
+        scenario, moves = jobs[0].scenario, jobs[0].moves
         assert moves is not None
         head = self.head_of(scenario, moves[0])
         if head is None:
             return None
         with named(f"{self.folder}/{MOVES}"), open(f"{self.folder}/{MOVES}", "w", encoding="ascii") as file:
-            file.writelines(job[3][1] for job in jobs if job[3])
+            file.writelines(job.moves[1] for job in jobs if job.moves)
         comparisons.empty(self.output)
         status, _ = self.said_at_end(self.folder, ["sweep", SCENARIO, self.state_name, MOVES], self.output)
         if status:
@@ -216,9 +223,9 @@ class Bench:
 
     def by_itself(self, job: Job) -> Answer:
         """Runs a job by a process of its own, with its moves as its scenario's input where that can say them."""
-        scenario, check, images, moves = job
+        moves = job.moves
         if moves and len(moves[1].split()) == WORDS_OF_ONE_STRETCH:
-            return self.run((with_moves(scenario, moves[1]), check, images, None))
+            return self.run(job._replace(scenario=with_moves(job.scenario, moves[1]), moves=None))
         try:
             rows = self.swept_rows([job])
         except NoAnswer as end:
@@ -230,14 +237,14 @@ class Bench:
     def checked_swept(self, job: Job, place: str) -> Answer:
         """What the checks say of rows that are in the trace already."""
         try:
-            return self.checked(job[1], job[0], place)
+            return self.checked(job, place)
         except NoAnswer as end:
             return end.answer
 
     def confirm(self, job: Job, place: str) -> None:
         """Raises Sick where the disk has not what the simulator was to read in this run."""
-        scenario, _, images, _ = job
-        wanted = {SCENARIO: scenario.encode(errors="surrogateescape"), **images}
+        images = job.images
+        wanted = {SCENARIO: job.scenario.encode(errors="surrogateescape"), **images}
         for name, content in wanted.items():
             with named(f"{place}/{name}"), open(f"{place}/{name}", "rb") as file:
                 if file.read(len(content) + 1) != content:
@@ -249,7 +256,7 @@ class Bench:
 
     def folder_for(self, job: Job) -> str:
         """Where the simulator finds the images of a job, which it seeks from the folder that it works in."""
-        images = job[2]
+        images = job.images
         if not images:
             return self.folder
         place = f"{self.folder}/{OWN}"
@@ -284,20 +291,21 @@ class Bench:
 
     def judged(self, job: Job, place: str) -> Answer:
         """What came of the simulator and of the checks."""
-        scenario, check = job[:2]
-        self.write_scenario(place, scenario)
+        self.write_scenario(place, job.scenario)
         try:
             status, said = self.said_at_end(place, self.shipment.words, self.trace)
             if status in REFUSALS:
                 return answer(REFUSED, said)
             if status:
                 return answer(BROKEN, f"status {status}: {said}")
-            return self.checked(check, scenario, place)
+            return self.checked(job, place)
         except NoAnswer as end:
             return end.answer
 
-    def checked(self, index: int, scenario: str, place: str) -> Answer:
-        """Shows all cases the trace of a scenario, and compares it in all ways; the first failure of each is told."""
+    def checked(self, job: Job, place: str) -> Answer:
+        """Shows all cases the trace of a job, compares it in all ways, and gives it to the function; the first failure of each is
+        told."""
+        index, scenario = job.check, job.scenario
         check = self.shipment.checks[index]
         statuses: list[int] = []  # of the calls by which the run is compared
 
@@ -338,10 +346,26 @@ class Bench:
                 self.demand_whole(self.output, ends, f"what was compared by {way}")
             if found.difference:
                 failures.append(found.difference)
+        if check.code:
+            try:
+                said = self.predicate(check.code).failure(job.values, self.whole_trace())
+            except ToolError as fault:
+                return answer(BROKEN, str(fault).replace(f"{self.folder}/{check.code.file}", check.code.path))
+            failures += [f"{check.code.path}: {said}"] * bool(said)
         judged = answer(FAILED if failures else PASSED, "\n".join(failures))
         judged["hash"], judged["counts"] = outputs.looked_through(self.trace)
         judged["compared"] = compared
         return judged
+
+    def predicate(self, code: ShippedFile) -> predicates.Predicate:
+        """The function of a file of the shipment, which is loaded once."""
+        if code.file not in self.predicates:
+            self.predicates[code.file] = predicates.Predicate(f"{self.folder}/{code.file}", self.shipment.timeout)
+        return self.predicates[code.file]
+
+    def whole_trace(self) -> bytes:
+        self.trace.seek(0)
+        return self.trace.readall()
 
     @staticmethod
     def demand_whole(output: io.FileIO, ends: "Ends | None", what: str) -> None:

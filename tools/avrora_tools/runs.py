@@ -3,7 +3,8 @@
 A worker gets the simulator, the images and the cases once, as a shipment, and then batches of jobs. A job is the text of
 a scenario, whose images are names of files of the shipment, the index of the check by which it is judged, images of its
 own by their names, which are all that it has where there are any, and moves, or None: what arrives at a node in place of the
-scenario's input, and from the end of which epoch on. Jobs that differ in their moves alone are made by one process.
+scenario's input, and from the end of which epoch on. Jobs that differ in their moves alone are made by one process. Its values
+are those of the keys that vary, for a function that checks it.
 
 An answer is a dictionary: `outcome` is one of the words below, `message` says why, `counts` has how many rows of each
 kind the trace has, `hash` is that of the trace, both None where there is no whole trace; `compared` has how much of it was
@@ -14,7 +15,7 @@ Python's own kinds, so a client reads it whatever the worker has.
 """
 import dataclasses
 from collections.abc import Sequence
-from typing import Any
+from typing import Any, NamedTuple
 
 PROGRAM = "avrora"  # the simulator's name in a shipment
 
@@ -30,7 +31,7 @@ FINAL = (PASSED, FAILED, REFUSED)
 COUNTS = ("sent", "heard", "clashes", "serial", "stops")
 
 Moves = tuple[int, str]  # epochs before the first byte, and a line of what `avrora sweep` reads
-Job = tuple[str, int, dict[str, bytes], Moves | None]
+
 Answer = dict[str, Any]
 
 # What a worker runs before it gets a job. By the manual LDI takes one cycle and RJMP, here to itself, two: LDI in cycle 0,
@@ -72,12 +73,24 @@ class ShippedCase:
     goldens: tuple[ShippedFile, ...]
 
 
+class Job(NamedTuple):
+    """A run for a worker."""
+
+    scenario: str
+    check: int
+    images: dict[str, bytes]
+    moves: Moves | None
+    values: tuple[Any, ...] = ()
+
+
 @dataclasses.dataclass(frozen=True)
 class Check:
-    """What a run is judged by: cases for its trace, and ways in which it is compared (`comparisons.WAYS`)."""
+    """What a run is judged by: cases for its trace, ways in which it is compared (`comparisons.WAYS`), and a Python file with a
+    function `check`."""
 
     cases: tuple[ShippedCase, ...]
     ways: tuple[str, ...] = ()
+    code: ShippedFile | None = None
 
 
 @dataclasses.dataclass(frozen=True)

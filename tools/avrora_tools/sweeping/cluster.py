@@ -45,9 +45,9 @@ class Tail:
     def job(self, is_alone: bool = False) -> runs.Job:
         tails, scenario = self.tails, self.tails.scenario
         if not tails.sweeps or is_alone:
-            return tails.text(scenario.scenario(self.move, self.window)), 0, {}, None
+            return runs.Job(tails.text(scenario.scenario(self.move, self.window)), 0, {}, None)
         text = tails.text(scenario.scenario((*self.move[:-1], None), self.window))
-        return text, 0, {}, (0, scenario.line(self.move[-1]))
+        return runs.Job(text, 0, {}, (0, scenario.line(self.move[-1])))
 
 
 class ClusterTails(ProcessTails):
