@@ -1,4 +1,4 @@
 """`python -m avrora_tools`."""
-from avrora_tools.main import main
+from avrora_tools.entry import main
 
 main()

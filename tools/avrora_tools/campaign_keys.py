@@ -100,6 +100,7 @@ RUN: Mapping[str, Key] = {
     "network": Key("a table: shape, images, and the options of mknet", is_table),
     "draw": Key("the name of a file", is_text),
     "expect": Key("a name or a list of names", is_texts, ()),
+    "check": Key("the name of a Python file", is_text),
     "compare": Key(f"a list of {', '.join(comparisons.WAYS)}", are_ways, ()),
     "vary": Key("a table: keys and their values", is_table, {}),
 }

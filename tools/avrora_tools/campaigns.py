@@ -11,17 +11,16 @@ import math
 import os
 import re
 from collections.abc import Iterator, Sequence
-from typing import Any
 
-from avrora_tools import campaign_keys, cases, runs
+from avrora_tools import campaign_keys, cases, predicates, runs
 from avrora_tools.campaign_keys import Table
 from avrora_tools.cases import Case
 from avrora_tools.draws import Code, DrawnGroup
 from avrora_tools.errors import BadInput
 from avrora_tools.files import printable, read_named, read_named_text, read_text
+from avrora_tools.spreads import MAX_RUNS, axis_of, flat
 from avrora_tools.variants import Axis, Group, NetworkGroup, Run, ScenarioGroup, content_name, parsed, shown
 
-MAX_RUNS = 1_000_000_000
 MOST_COMPARED = 100_000  # names of runs that are compared one by one
 NODE_WINDOW = 20_000  # cycles, of `avrora node`
 LONGEST_NAME = 120  # bytes of the name of a run in the names of files
@@ -93,13 +92,24 @@ class Campaign:
         """The groups that code of the user draws."""
         return [group for group in self.groups if isinstance(group, DrawnGroup)]
 
-    def demand_code(self, allowed: bool) -> None:
-        """Loads the code that the file names, where the user allows it. Raises BadInput where not."""
+    def demand_draws(self, allowed: bool) -> None:
+        """Loads the code by which runs are drawn, where the user allows it. Raises BadInput where not."""
         for group in self.drawn:
-            if not allowed:
-                path = printable(group.code.path)
-                raise BadInput(f"{printable(group.place)}: `draw` names code, {path}, which runs only with --run-code")
+            demand(allowed, group.place, "draw", group.code.path)
             group.prepare()
+
+    def demand_checks(self, allowed: bool) -> None:
+        """Loads the code by which runs are checked, where the user allows it, so that what is wrong with it is told at once."""
+        for code in dict.fromkeys(check.code for check in self.checks if check.code):
+            path = os.path.join(self.folder, code.path)
+            demand(allowed, self.path, "check", path)
+            predicates.Predicate(path, self.settings["timeout"])
+
+
+def demand(allowed: bool, place: str, key: str, path: str) -> None:
+    """Raises BadInput where code is not to run."""
+    if not allowed:
+        raise BadInput(f"{printable(place)}: `{key}` names code, {printable(path)}, which runs only with --run-code")
 
 
 class Digests:
@@ -113,6 +123,8 @@ class Digests:
             for case in check.cases:
                 parts += ["case", case.path, case.file]
                 parts += itertools.chain(*(("golden", golden.path, golden.file) for golden in case.goldens))
+            if check.code:
+                parts += ["check", check.code.path, check.code.file]
             text = "\0".join([*parts, "scenario", ""])
             self.begun.append(hashlib.sha256(text.encode("utf-8", "surrogateescape")))
 
@@ -231,14 +243,17 @@ def groups_of(place: str, table: Table, folder: str, files: Files, checks: list[
         raise BadInput(f"{place}: a run has a {found[0]} or a {found[1]}, and not both")
     name = table.get("name", "")
     read = [case_of(place, path, folder, files) for path in texts(table.get("expect", ()))]
-    axes = [Axis(key, values_of(place, key, values)) for key, values in flat(table.get("vary", {})).items()]
+    axes = [axis_of(place, key, values) for key, values in flat(table.get("vary", {})).items()]
     ways = tuple(table.get("compare", ()))
+    code = None
+    if "check" in table:
+        code = runs.ShippedFile(files.add(place, os.path.join(folder, table["check"])), table["check"])
 
     def ship(path: str) -> str:
         return files.add(place, path)
 
     def check(shipped: Sequence[runs.ShippedCase]) -> int:
-        checks.append(runs.Check(tuple(shipped), ways))
+        checks.append(runs.Check(tuple(shipped), ways, code))
         return len(checks) - 1
 
     shipped = [case.shipped for case in read]
@@ -281,34 +296,6 @@ def source_of(place: str, case: Case) -> Table:
         window = [0, min(cycles, NODE_WINDOW)]
         return {"cycles": cycles, "window": window, "node": [{"image": case.source[1]}]}
     raise BadInput(f"{place}: {case.path} has no `run FILE` and no `node FILE CYCLES`")
-
-
-def flat(table: Table, prefix: str = "") -> Table:
-    """A table whose keys have dots: `input.2.at = ..` in TOML is a table in a table."""
-    found: Table = {}
-    for key, value in table.items():
-        if isinstance(value, dict) and not value.keys() & {"from", "to"}:
-            found.update(flat(value, f"{prefix}{key}."))
-        else:
-            found[prefix + key] = value
-    return found
-
-
-def values_of(place: str, key: str, values: Any) -> Sequence[Any]:
-    """The values of a varied key: a list, or all numbers from one to another."""
-    if isinstance(values, list) and values:
-        return values
-    if (
-        isinstance(values, dict)
-        and values.keys() <= {"from", "to", "step"}
-        and all(type(v) is int for v in values.values())
-    ):
-        first, last, step = values.get("from"), values.get("to"), values.get("step", 1)
-        if first is not None and last is not None and first <= last and step > 0:
-            if (last - first) // step >= MAX_RUNS:
-                raise BadInput(f"{place}: {key} has more than {MAX_RUNS:,} values")
-            return range(first, last + 1, step)
-    raise BadInput(f"{place}: {key} has no list of values and no {{ from = A, to = B, step = C }}")
 
 
 @dataclasses.dataclass(frozen=True)

@@ -12,7 +12,7 @@ import avrora_tools
 PACKAGE = avrora_tools.__name__
 
 # Where a run and its checks begin, and where drawn networks come from.
-RUNS, NETWORKS = f"{PACKAGE}.runs", f"{PACKAGE}.networks"
+RUNS, NETWORKS = f"{PACKAGE}.benches", f"{PACKAGE}.networks"
 
 
 @functools.cache

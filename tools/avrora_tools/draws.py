@@ -4,7 +4,6 @@ The function is code, so it is loaded only where the command line allows it. Wha
 listings of folders that Python opens in it are recorded with their content, so that a result is kept only while they are as
 they were.
 """
-import contextlib
 import functools
 import hashlib
 import importlib.util
@@ -12,13 +11,13 @@ import json
 import os
 import re
 import sys
-import sysconfig
-from collections.abc import Callable, Iterator, Mapping, Sequence
-from typing import Any, ClassVar
+from collections.abc import Callable, Mapping, Sequence
+from typing import Any
 
 from avrora_tools import files
 from avrora_tools.errors import BadInput
 from avrora_tools.files import printable
+from avrora_tools.recording import Recorder, is_own, source_of
 from avrora_tools.variants import Axis, Group
 
 NUMBER = "number"
@@ -29,56 +28,8 @@ DRAWN_KEPT = 4_096
 MOST_INPUTS = 10_000  # files that are recorded; what reads more is drawn anew
 LARGEST_INPUT = 64 * 1024 * 1024  # bytes
 
-# What leaves this process, or comes from elsewhere: no record of files says what that gives.
-OPEN_ENDED = ("subprocess.Popen", "os.system", "os.exec", "os.posix_spawn", "os.fork", "socket.connect", "urllib.Request")
-LISTINGS = ("os.listdir", "os.scandir")
-
-# Python's own modules, which its version stands for.
-OWN_FOLDERS = tuple(f"{sysconfig.get_path(name)}/" for name in ("stdlib", "platstdlib"))
-
 GONE = "not there"
 ANEW = "drawn anew"  # in place of a record
-
-
-class Recorder:
-    """What this process opens while it is asked to record. Python has no way to take such a hook back."""
-
-    is_there: ClassVar[bool] = False
-    current: ClassVar["Recorder | None"] = None
-
-    def __init__(self) -> None:
-        self.opened: dict[str, None] = {}
-        self.listed: dict[str, None] = {}
-        self.is_open_ended = False
-
-    @contextlib.contextmanager
-    def recording(self) -> Iterator[None]:
-        if not Recorder.is_there:
-            Recorder.is_there = True
-            sys.addaudithook(hook)
-        Recorder.current = self
-        try:
-            yield
-        finally:
-            Recorder.current = None
-
-
-def hook(event: str, words: tuple[Any, ...]) -> None:
-    recorder = Recorder.current
-    if recorder is None:
-        return
-    if event == "open":
-        path = words[0]
-        flags = words[2] if len(words) > 2 and isinstance(words[2], int) else 0
-        if isinstance(path, (str, bytes, os.PathLike)) and flags & os.O_ACCMODE != os.O_WRONLY:
-            recorder.opened[os.path.abspath(os.fsdecode(path))] = None
-    elif event in LISTINGS:
-        if not sys._getframe(1).f_code.co_filename.startswith("<frozen importlib"):
-            path = words[0] if words and words[0] is not None else "."
-            if isinstance(path, (str, bytes)):
-                recorder.listed[os.path.abspath(os.fsdecode(path))] = None
-    elif event in OPEN_ENDED:
-        recorder.is_open_ended = True
 
 
 def content_of(path: str) -> str:
@@ -141,21 +92,13 @@ class Code:
         for path in {**recorder.opened, **recorder.listed}:
             source = source_of(path)
             name = os.path.relpath(source, self.folder)
-            if not source.startswith((*OWN_FOLDERS, "/proc/", "/dev/")) and name not in self.inputs:
+            if not is_own(source) and name not in self.inputs:
                 if len(self.inputs) == MOST_INPUTS:
                     self.is_open_ended = True
                     break
                 self.inputs[name] = content_of(source)
         recorder.opened.clear()
         recorder.listed.clear()
-
-
-def source_of(path: str) -> str:
-    """The source of a module that was compiled before."""
-    if path.endswith(".pyc"):
-        with contextlib.suppress(NotImplementedError, ValueError):
-            return importlib.util.source_from_cache(path)
-    return path
 
 
 def record(codes: Sequence[Code]) -> str:

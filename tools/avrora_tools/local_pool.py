@@ -42,9 +42,13 @@ class LocalPool:
         self.folder = tempfile.mkdtemp(prefix=prefix)
         self.workers: dict[Any, LocalWorker] = {}
         self.waited = time.monotonic()  # the end of the last look at the workers
-        started = [self.started(f"{socket.gethostname()} process {number}") for number in range(count)]
-        for worker in started:  # once all are on their way, as each takes the shipment only when it has begun
-            self.ship(worker)
+        try:
+            started = [self.started(f"{socket.gethostname()} process {number}") for number in range(count)]
+            for worker in started:  # once all are on their way, as each takes the shipment only when it has begun
+                self.ship(worker)
+        except BaseException:  # ^C too: nothing is left of what was begun
+            self.close()
+            raise
 
     def started(self, name: str, starts: int = 1) -> LocalWorker:
         """Starts a worker, which waits for its shipment."""

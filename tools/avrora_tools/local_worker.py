@@ -9,7 +9,7 @@ import time
 from multiprocessing.connection import Connection
 from typing import Any
 
-from avrora_tools import runs
+from avrora_tools import benches
 
 # What starts a worker: it finds this package where the process that starts it does.
 START = "import sys; sys.path[:] = {path!r}; from avrora_tools.local_worker import main; main()"
@@ -56,7 +56,7 @@ def main() -> None:
     threading.Thread(target=listen, daemon=True).start()
     threading.Thread(target=tick, daemon=True).start()
     shipment, folder = inbox.get(), inbox.get()
-    bench = runs.Bench(shipment, folder)
+    bench = benches.Bench(shipment, folder)
     send(bench.prove())
     while True:
         send(bench.run_batch(inbox.get()))

@@ -88,9 +88,26 @@ def main(words: Sequence[str] | None = None) -> NoReturn:
     os._exit(status)  # without a second flush of an output that failed
 
 
+def hear_interrupts() -> None:
+    """From here on ^C raises KeyboardInterrupt, and so does one that came before: `entry` and ./avrora-tools keep it until
+    now. One that comes where nothing can be raised comes again."""
+
+    def again(unraisable: "sys.UnraisableHookArgs") -> None:
+        if issubclass(unraisable.exc_type, KeyboardInterrupt):
+            os.kill(os.getpid(), signal.SIGINT)
+        else:
+            sys.__unraisablehook__(unraisable)
+
+    sys.unraisablehook = again
+    if signal.getsignal(signal.SIGINT) is signal.SIG_DFL:
+        signal.signal(signal.SIGINT, signal.default_int_handler)
+    signal.pthread_sigmask(signal.SIG_UNBLOCK, {signal.SIGINT})
+
+
 def guarded(words: Sequence[str], tells_traceback: bool) -> int:
     """The status of a subcommand, however it ends: what it raises becomes a line on the standard error."""
     try:
+        hear_interrupts()
         try:
             status = run(words)
         except SystemExit as exit_:  # of --help

@@ -36,7 +36,7 @@ class SetAside:
 
 @dataclasses.dataclass(frozen=True)
 class Done:
-    """A batch came to answers, as `runs.Bench.run_batch` gives them."""
+    """A batch came to answers, as `benches.Bench.run_batch` gives them."""
 
     worker: Worker
     ticket: int

@@ -1,9 +1,10 @@
-"""Where a run of a campaign takes place: in a process of this machine, or in one of a machine that a worker of dask is on.
+"""What a worker of a campaign gets, and what it answers.
 
 A worker gets the simulator, the images and the cases once, as a shipment, and then batches of jobs. A job is the text of
 a scenario, whose images are names of files of the shipment, the index of the check by which it is judged, images of its
 own by their names, which are all that it has where there are any, and moves, or None: what arrives at a node in place of the
-scenario's input, and from the end of which epoch on. Jobs that differ in their moves alone are made by one process.
+scenario's input, and from the end of which epoch on. Jobs that differ in their moves alone are made by one process. Its values
+are those of the keys that vary, for a function that checks it.
 
 An answer is a dictionary: `outcome` is one of the words below, `message` says why, `counts` has how many rows of each
 kind the trace has, `hash` is that of the trace, both None where there is no whole trace; `compared` has how much of it was
@@ -11,35 +12,14 @@ compared in each way; `seconds` is the time of the run and its checks, `processo
 in seconds, `trace` the trace in gzip's format or None, `again` whether another attempt can come to something else,
 `trouble` whether it was the worker that failed, and `late` whether the run took more time than it may. All of it is of
 Python's own kinds, so a client reads it whatever the worker has.
-
-A worker trusts its own disk no further than it must. A trace that lacks its end rows is trouble of the worker. Before it
-answers that a run failed or is refused, and at the end of each batch, it compares all that it was sent with what its disk
-has: where that differs it is sick, and what it found since its last comparison is no answer.
 """
-import contextlib
 import dataclasses
-import gzip
-import hashlib
-import io
-import itertools
-import os
-import re
-import shutil
-import tempfile
-import time
-from collections.abc import Iterator, Sequence
-from typing import Any, BinaryIO, NamedTuple, cast
-
-from avrora_tools import calling, cases, cli, comparisons, expectations
-from avrora_tools.errors import ToolError
-from avrora_tools.events import CLASH, ONE_BYTE
+from collections.abc import Sequence
+from typing import Any, NamedTuple
 
 PROGRAM = "avrora"  # the simulator's name in a shipment
 
-# The files of a run, and the folder of the scenario and the images of one with images of its own.
-SCENARIO, TRACE, OUTPUT, OWN = "scenario.toml", "trace", "output", "own"
-MOVES, SWEPT_STATE = "moves", "swept.state"  # of runs that one process makes
-WORDS_OF_ONE_STRETCH = 4  # of a line of moves
+SCENARIO = "scenario.toml"  # its name where it is run
 
 # All expectations are met; one is not; the scenario or an image is refused; the run came to no answer.
 PASSED, FAILED, REFUSED, BROKEN = "passed", "failed", "refused", "broken"
@@ -48,21 +28,10 @@ OUTCOMES = (PASSED, FAILED, REFUSED, BROKEN)
 # Answers of the simulator, which is deterministic: to run again would give the same.
 FINAL = (PASSED, FAILED, REFUSED)
 
-# Statuses of the simulator: the scenario is refused, an image is; writing or reading failed, which is the worker's fault,
-# as all that is read came in the shipment; the memory was not enough.
-REFUSALS = (4, 5)
-WORKER_FAULTS = (1, 3)
-MEMORY_FAULTS = (6, 9)
-
 COUNTS = ("sent", "heard", "clashes", "serial", "stops")
 
-# What a row of each of them has in it.
-TELLING = (b" sent ", b" heard %d " % ONE_BYTE, b" heard %d " % CLASH, b" serial ", b" stop ")
-
-BLOCK = 1 << 16  # bytes that are looked at together
-
 Moves = tuple[int, str]  # epochs before the first byte, and a line of what `avrora sweep` reads
-Job = tuple[str, int, dict[str, bytes], Moves | None]
+
 Answer = dict[str, Any]
 
 # What a worker runs before it gets a job. By the manual LDI takes one cycle and RJMP, here to itself, two: LDI in cycle 0,
@@ -86,10 +55,6 @@ PROOF_SECONDS = 300  # a busy machine is no sick one
 # A worker gives back what it has not begun of a batch that took so long: others may have nothing to do.
 SECONDS_A_BATCH = 10.0
 
-# As many bytes as the end rows of all nodes have.
-TAIL = 8_192
-END_ROW = re.compile(rb"([0-9]+) ([0-9]+) end [0-9]+ (?:running|asleep|stopped)")
-
 
 @dataclasses.dataclass(frozen=True)
 class ShippedFile:
@@ -108,12 +73,24 @@ class ShippedCase:
     goldens: tuple[ShippedFile, ...]
 
 
+class Job(NamedTuple):
+    """A run for a worker."""
+
+    scenario: str
+    check: int
+    images: dict[str, bytes]
+    moves: Moves | None
+    values: tuple[Any, ...] = ()
+
+
 @dataclasses.dataclass(frozen=True)
 class Check:
-    """What a run is judged by: cases for its trace, and ways in which it is compared (`comparisons.WAYS`)."""
+    """What a run is judged by: cases for its trace, ways in which it is compared (`comparisons.WAYS`), and a Python file with a
+    function `check`."""
 
     cases: tuple[ShippedCase, ...]
     ways: tuple[str, ...] = ()
+    code: ShippedFile | None = None
 
 
 @dataclasses.dataclass(frozen=True)
@@ -133,337 +110,6 @@ class Sick(Exception):
     """A worker that cannot work; the text says why."""
 
 
-class NoAnswer(Exception):
-    """Ends a run that came to no trace; the answer says how."""
-
-    def __init__(self, found: Answer) -> None:
-        super().__init__(found["message"])
-        self.answer = found
-
-
-class Bench:
-    """A folder with a shipment, where runs take place."""
-
-    def __init__(self, shipment: Shipment, place: str) -> None:
-        self.shipment, self.place = shipment, place
-        self.folder = ""
-        self.cases: dict[int, list[cases.Case]] = {}
-        self.images: dict[str, bytes] = {}  # that are in the folder of a run's own
-        self.head: tuple[tuple[str, int], bytes] = (("", 0), b"")  # of a scenario's first epochs: their rows
-        self.state_name = SWEPT_STATE
-        # For the trace of a run and for what it is compared with. They stay open, as many runs are as short as that takes.
-        self.trace: io.FileIO
-        self.output: io.FileIO
-        self.files = contextlib.ExitStack()
-        self.caller = calling.Caller()
-        content = {**shipment.files, PROOF_NAME: PROOF_IMAGE.encode()}
-        self.sums = {name: hashlib.sha256(content).digest() for name, content in content.items()}
-
-    def prove(self) -> str | None:
-        """Unpacks what is not there, and runs a known scenario. None where it came out as it should, else why not."""
-        try:
-            self.unpack()
-            self.write_scenario(self.folder, PROOF_SCENARIO)
-            ended = self.call(self.folder, ["run", SCENARIO], self.trace, PROOF_SECONDS)
-            self.trace.seek(0)
-            found = hashlib.sha256(self.trace.read()).digest()
-        except OSError as fault:
-            return described(fault)
-        except calling.TooLong:
-            return f"the known scenario took more than {PROOF_SECONDS} s"
-        if ended.status:
-            return f"the known scenario ended with status {ended.status}: {ended.said}".rstrip(": ")
-        if found != hashlib.sha256(PROOF_TRACE.encode()).digest():
-            return "the known scenario came out otherwise than it should"
-        return None
-
-    def unpack(self) -> None:
-        """Writes the files of the shipment that are not there, and opens anew those that a run writes to."""
-        if not os.path.isdir(self.folder):
-            self.folder = tempfile.mkdtemp(prefix="avrora-", dir=self.place)
-        self.files.close()
-        self.trace, self.output = (
-            self.files.enter_context(open(f"{self.folder}/{name}", "w+b", buffering=0)) for name in (TRACE, OUTPUT)
-        )
-        self.images.clear()
-        os.makedirs(f"{self.folder}/{OWN}", exist_ok=True)
-        for name, content in [*self.shipment.files.items(), (PROOF_NAME, PROOF_IMAGE.encode())]:
-            path = f"{self.folder}/{name}"
-            if not os.path.exists(path) or os.path.getsize(path) != len(content):
-                with named(path), open(path, "wb") as file:
-                    file.write(content)
-                os.chmod(path, 0o755 if name == PROGRAM else 0o644)
-
-    def run_batch(self, jobs: Sequence[Job]) -> dict[str, Any]:
-        """The answers to jobs, in order. To the first of them alone where the worker became sick, and then why; or where
-        the batch takes long, as others may have nothing to do."""
-        answers: list[Answer] = []
-        sick = None
-        begun = time.monotonic()
-        places = itertools.count()
-        for _, alike in itertools.groupby(jobs, lambda job: repr(job[:2]) + str(job[3][0]) if job[3] else str(next(places))):
-            group = list(alike)
-            try:
-                answers += self.swept(group) if group[0][3] else [self.run(group[0])]
-            except Sick as fault:
-                sick = str(fault)
-                break
-            if time.monotonic() - begun > SECONDS_A_BATCH:
-                break
-        changed = self.changed()
-        return {"answers": [] if changed else answers, "sick": changed or sick}
-
-    def changed(self) -> str | None:
-        """Which file of the shipment the disk has not as it was sent, in words, or None."""
-        for name, expected in self.sums.items():
-            try:
-                with open(f"{self.folder}/{name}", "rb") as file:
-                    found = hashlib.file_digest(file, "sha256").digest()
-            except OSError as fault:
-                return described(fault)
-            if found != expected:
-                return f"its disk has {name} otherwise than it was sent"
-        return None
-
-    def run(self, job: Job, rows: bytes | None = None) -> Answer:
-        """Runs a job, or judges the rows that a process wrote for it beside others. Raises Sick where it is the worker that
-        cannot."""
-        start, used = time.monotonic(), self.caller.processor
-        try:
-            comparisons.empty(self.trace)
-            place = self.folder_for(job)
-            if rows is None:
-                found = self.judged(job, place)
-            else:
-                self.trace.write(rows)
-                found = self.checked_swept(job, place)
-            if found["outcome"] in (FAILED, REFUSED) or job[2]:
-                self.confirm(job, place)
-            keeps = self.shipment.traces
-            if keeps == "all" or keeps == "failed" and found["outcome"] in (FAILED, BROKEN):
-                found["trace"] = packed(self.trace, self.shipment.kinds)
-        except OSError as fault:
-            found = answer(BROKEN, described(fault), again=True, trouble=True)
-        except ToolError as fault:  # of a case that the client has read
-            found = answer(BROKEN, str(fault), again=True, trouble=True)
-        except MemoryError:
-            found = answer(BROKEN, "the worker is out of memory", again=True, trouble=True)
-        if found["trouble"]:
-            reason = self.changed() or self.prove()
-            if reason:
-                raise Sick(reason)
-        found["seconds"] = round(time.monotonic() - start, 4)
-        found["processor"] = round(self.caller.processor - used, 4)
-        return found
-
-    def swept(self, jobs: Sequence[Job]) -> list[Answer]:
-        """Runs jobs that differ in their moves alone, by one process. Where that does not end well each is run by itself."""
-        start, used = time.monotonic(), self.caller.processor
-        try:
-            rows = self.swept_rows(jobs)
-        except (OSError, NoAnswer):
-            rows = None
-        if rows is None or len(rows) != len(jobs):
-            return [self.by_itself(job) for job in jobs]
-        share = (time.monotonic() - start) / len(jobs), (self.caller.processor - used) / len(jobs)
-        answers = []
-        for job, piece in zip(jobs, rows):
-            found = self.run(job, piece)
-            found["seconds"] = round(found["seconds"] + share[0], 4)
-            found["processor"] = round(found["processor"] + share[1], 4)
-            answers.append(found)
-        return answers
-
-    def swept_rows(self, jobs: Sequence[Job]) -> list[bytes] | None:
-        """The rows of each of such jobs, behind those that all have; None where the simulator refuses something."""
-        scenario, _, _, moves = jobs[0]
-        assert moves is not None
-        head = self.head_of(scenario, moves[0])
-        if head is None:
-            return None
-        with named(f"{self.folder}/{MOVES}"), open(f"{self.folder}/{MOVES}", "w", encoding="ascii") as file:
-            file.writelines(job[3][1] for job in jobs if job[3])
-        comparisons.empty(self.output)
-        status, _ = self.said_at_end(self.folder, ["sweep", SCENARIO, self.state_name, MOVES], self.output)
-        if status:
-            return None
-        self.output.seek(0)
-        pieces = swept_pieces(self.output.readall())
-        return pieces and [head + piece for piece in pieces]
-
-    def head_of(self, scenario: str, epochs: int) -> bytes | None:
-        """The rows before the epoch in which the first byte arrives, and the state there, which stay for the jobs behind; None
-        where the simulator refuses that."""
-        if self.shipment.words[0] == "resume":  # the state is in the shipment
-            self.write_scenario(self.folder, scenario)
-            self.state_name = self.shipment.words[-1]
-            return b""
-        key = (scenario, epochs)
-        if self.head[0] != key:
-            self.write_scenario(self.folder, scenario)
-            self.head = (("", 0), b"")
-            with open(f"{self.folder}/{SWEPT_STATE}", "wb", buffering=0) as state:
-                if self.said_at_end(self.folder, ["save", SCENARIO, str(epochs)], state)[0]:
-                    return None
-            comparisons.empty(self.output)
-            if self.said_at_end(self.folder, ["head", SCENARIO, str(epochs)], self.output)[0]:
-                return None
-            self.output.seek(0)
-            self.head = (key, self.output.readall())
-        else:
-            self.write_scenario(self.folder, scenario)
-        self.state_name = SWEPT_STATE
-        return self.head[1]
-
-    def by_itself(self, job: Job) -> Answer:
-        """Runs a job by a process of its own, with its moves as its scenario's input where that can say them."""
-        scenario, check, images, moves = job
-        if moves and len(moves[1].split()) == WORDS_OF_ONE_STRETCH:
-            return self.run((with_moves(scenario, moves[1]), check, images, None))
-        try:
-            rows = self.swept_rows([job])
-        except NoAnswer as end:
-            return end.answer
-        if rows is None or len(rows) != 1:
-            return answer(BROKEN, "the simulator refuses what arrives, or writes no whole trace", again=True)
-        return self.run(job, rows[0])
-
-    def checked_swept(self, job: Job, place: str) -> Answer:
-        """What the checks say of rows that are in the trace already."""
-        try:
-            return self.checked(job[1], job[0], place)
-        except NoAnswer as end:
-            return end.answer
-
-    def confirm(self, job: Job, place: str) -> None:
-        """Raises Sick where the disk has not what the simulator was to read in this run."""
-        scenario, _, images, _ = job
-        wanted = {SCENARIO: scenario.encode(errors="surrogateescape"), **images}
-        for name, content in wanted.items():
-            with named(f"{place}/{name}"), open(f"{place}/{name}", "rb") as file:
-                if file.read(len(content) + 1) != content:
-                    raise Sick(f"its disk has {name} otherwise than it was written")
-        if not images:  # all that it read else is in the shipment, and compared with each batch
-            reason = self.changed()
-            if reason:
-                raise Sick(reason)
-
-    def folder_for(self, job: Job) -> str:
-        """Where the simulator finds the images of a job, which it seeks from the folder that it works in."""
-        images = job[2]
-        if not images:
-            return self.folder
-        place = f"{self.folder}/{OWN}"
-        for name, content in images.items():
-            if self.images.get(name) != content:
-                self.images.pop(name, None)
-                with named(f"{place}/{name}"), open(f"{place}/{name}", "wb") as file:
-                    file.write(content)
-                self.images[name] = content
-        return place
-
-    def write_scenario(self, place: str, text: str) -> None:
-        with open(f"{place}/{SCENARIO}", "wb") as file:
-            file.write(text.encode(errors="surrogateescape"))
-
-    def call(self, place: str, words: Sequence[str], output: io.FileIO, seconds: float) -> calling.Ended:
-        """Runs the simulator in a folder."""
-        return self.caller.call(f"{self.folder}/{PROGRAM}", words, place, output, seconds)
-
-    def said_at_end(self, place: str, words: Sequence[str], output: io.FileIO) -> tuple[int, str]:
-        """The status of a call of the simulator, and what it said. Raises NoAnswer where that is nothing of the scenario's:
-        where another call may come to something else."""
-        try:
-            status, said = self.call(place, words, output, self.shipment.timeout)
-        except calling.TooLong:
-            late = answer(BROKEN, f"took more than {self.shipment.timeout} s", again=True)
-            raise NoAnswer({**late, "late": True}) from None
-        trouble = status in WORKER_FAULTS
-        if trouble or status < 0 or status in MEMORY_FAULTS:
-            raise NoAnswer(answer(BROKEN, f"status {status}: {said}", again=True, trouble=trouble))
-        return status, said
-
-    def judged(self, job: Job, place: str) -> Answer:
-        """What came of the simulator and of the checks."""
-        scenario, check = job[:2]
-        self.write_scenario(place, scenario)
-        try:
-            status, said = self.said_at_end(place, self.shipment.words, self.trace)
-            if status in REFUSALS:
-                return answer(REFUSED, said)
-            if status:
-                return answer(BROKEN, f"status {status}: {said}")
-            return self.checked(check, scenario, place)
-        except NoAnswer as end:
-            return end.answer
-
-    def checked(self, index: int, scenario: str, place: str) -> Answer:
-        """Shows all cases the trace of a scenario, and compares it in all ways; the first failure of each is told."""
-        check = self.shipment.checks[index]
-        statuses: list[int] = []  # of the calls by which the run is compared
-
-        def call(words: Sequence[str], output: io.FileIO) -> str | None:
-            status, said = self.said_at_end(place, words, output)
-            statuses.append(status)
-            return f"status {status}: {said}" if status else None
-
-        compares = comparisons.Place(place, SCENARIO, scenario, self.trace, self.output, call)
-        if index not in self.cases:
-            self.cases[index] = [self.case(shipped) for shipped in check.cases]
-        window: range | None = None
-        ends: Ends | None = None
-        with contextlib.suppress(ToolError):  # whether it is a scenario the simulator says
-            window = range(*compares.read.window)
-            ends = Ends(compares.read.cycles, len(compares.read.images))
-        self.demand_whole(self.trace, ends, "its trace")
-        failures = []
-        for shipped, case in zip(check.cases, self.cases[index]):
-            self.trace.seek(0)
-            try:
-                failure = expectations.check(case, cast(BinaryIO, self.trace), window=window).failure
-            except ToolError as fault:
-                return answer(BROKEN, f"{shipped.path}: {fault}")
-            if failure:
-                for golden in shipped.goldens:
-                    failure = failure.replace(f"{self.folder}/{golden.file}", golden.path)
-                failures.append(failure)
-        compared = {}
-        for way in check.ways:
-            statuses.clear()
-            try:
-                found = comparisons.WAYS[way](compares)
-            except ToolError as fault:
-                found = comparisons.Found(f"{way}: {fault}", 0)
-            compared[way] = found.compared
-            if statuses and not any(statuses):
-                self.demand_whole(self.output, ends, f"what was compared by {way}")
-            if found.difference:
-                failures.append(found.difference)
-        judged = answer(FAILED if failures else PASSED, "\n".join(failures))
-        judged["hash"], judged["counts"] = looked_through(self.trace)
-        judged["compared"] = compared
-        return judged
-
-    @staticmethod
-    def demand_whole(output: io.FileIO, ends: "Ends | None", what: str) -> None:
-        """Raises NoAnswer where an output has not the end rows: the worker lost a part of it."""
-        if not is_whole(output, ends):
-            message = f"{what} is not whole: the rows of its end are not there"
-            raise NoAnswer(answer(BROKEN, message, again=True, trouble=True))
-
-    def case(self, shipped: ShippedCase) -> cases.Case:
-        """A case of the shipment, by the names that its reader knows."""
-        case = cases.read_case(f"{self.folder}/{shipped.file}")
-        goldens = iter(shipped.goldens)
-        statements = [
-            statement._replace(path=f"{self.folder}/{next(goldens).file}")
-            if isinstance(statement, cases.Golden)
-            else statement
-            for statement in case.statements
-        ]
-        return case._replace(path=shipped.path, statements=statements)
-
-
 def answer(outcome: str, message: str = "", again: bool = False, trouble: bool = False) -> Answer:
     return {
         "outcome": outcome,
@@ -478,76 +124,3 @@ def answer(outcome: str, message: str = "", again: bool = False, trouble: bool =
         "trouble": trouble,
         "late": False,
     }
-
-
-class Ends(NamedTuple):
-    """The end rows of a trace: in which cycle they stand, and of how many nodes."""
-
-    cycle: int
-    nodes: int
-
-
-def is_whole(trace: io.FileIO, ends: Ends | None) -> bool:
-    """Whether a trace ends with a row for the end of each node, in order; where these are not known, of all up to one."""
-    size = os.fstat(trace.fileno()).st_size
-    start = max(0, size - TAIL)
-    *rows, rest = os.pread(trace.fileno(), size - start, start).split(b"\n")
-    found = [END_ROW.fullmatch(row) for row in rows[-cli.MAX_NODES :]]
-    numbers = [(int(match[1]), int(match[2])) for match in found if match]
-    if rest or not found or not found[-1]:
-        return False
-    cycle, last = ends and (ends.cycle, ends.nodes - 1) or numbers[-1]
-    return numbers[-last - 1 :] == [(cycle, node) for node in range(last + 1)] and all(found[-last - 1 :])
-
-
-@contextlib.contextmanager
-def named(path: str) -> Iterator[None]:
-    """An OSError in the block that names no file names this one: writing to it failed."""
-    try:
-        yield
-    except OSError as fault:
-        raise OSError(fault.errno, fault.strerror, fault.filename or path) from None
-
-
-def described(fault: OSError) -> str:
-    return f"{fault.filename}: {fault.strerror}" if fault.filename else str(fault.strerror or fault)
-
-
-def packed(trace: io.FileIO, kinds: Sequence[bytes] = ()) -> bytes:
-    """A file in gzip's format, without a time in it; of its rows those with one of these in them."""
-    trace.seek(0)
-    out = io.BytesIO()
-    with gzip.GzipFile(fileobj=out, mode="wb", mtime=0, compresslevel=1 if kinds else 6) as file:
-        if kinds:
-            rows = trace.readall().splitlines(keepends=True)
-            file.writelines(row for row in rows if any(kind in row for kind in kinds))
-        else:
-            shutil.copyfileobj(trace, file)
-    return out.getvalue()
-
-
-def swept_pieces(output: bytes) -> list[bytes]:
-    """The rows of each run, of those of some: a run ends with its end rows, which are behind all others."""
-    ends = [match.end() for match in re.finditer(rb"^\d+ \d+ end [^\n]*\n(?!\d+ [1-9]\d* end )", output, re.MULTILINE)]
-    return [output[first:end] for first, end in zip([0, *ends], ends)] if ends and ends[-1] == len(output) else []
-
-
-def with_moves(scenario: str, line: str) -> str:
-    """A scenario in which what a line of moves says arrives at its node. The line has one stretch."""
-    node, at, every, digits = line.split()
-    table = f"[[input]]\nnode = {node}\nat = {at}\nevery = {every}\nhex = \"{digits}\"\n"
-    parts = re.split(r"(?m)^(?=\[\[)", scenario)
-    kept = [part for part in parts if not (part.startswith("[[input]]") and re.search(rf"(?m)^node = {node}$", part))]
-    return "".join([*kept, "\n", table])
-
-
-def looked_through(trace: io.FileIO) -> tuple[str, list[int]]:
-    """The hash of a trace, and how many rows of each kind it has, in the order of COUNTS; of those that heard, how many
-    heard one byte, and how many a clash."""
-    trace.seek(0)
-    found, counts = hashlib.sha256(), [0] * len(TELLING)
-    # Whole rows: in them each of these texts stands for a kind alone, as the text of an instruction has none of them.
-    while block := trace.read(BLOCK) + trace.readline():
-        found.update(block)
-        counts = [count + block.count(text) for count, text in zip(counts, TELLING)]
-    return found.hexdigest(), counts

@@ -10,7 +10,7 @@ import secrets
 import tempfile
 from collections.abc import Callable, Iterator
 
-from avrora_tools import campaigns, checkers, draws, driving, files, pools, results, runs, scenarios, terminal, watching
+from avrora_tools import benches, campaigns, checkers, draws, driving, files, pools, results, runs, scenarios, terminal, watching
 from avrora_tools.attempts import Attempt
 from avrora_tools.campaigns import Campaign, Shard
 from avrora_tools.errors import BadInput, ToolError
@@ -213,12 +213,12 @@ class Arbiter:
 
     def __init__(self, shipment: runs.Shipment, stack: contextlib.ExitStack) -> None:
         self.shipment, self.stack = shipment, stack
-        self.bench: runs.Bench | None = None
+        self.bench: benches.Bench | None = None
 
     def __call__(self, job: runs.Job) -> runs.Answer:
         if self.bench is None:
             place = self.stack.enter_context(tempfile.TemporaryDirectory(prefix="avrora-arbiter-"))
-            self.bench = runs.Bench(self.shipment, place)
+            self.bench = benches.Bench(self.shipment, place)
             reason = self.bench.prove()
             if reason:
                 self.bench = None
@@ -240,7 +240,7 @@ class Counts:
         now = self.driver.clock()
         if is_last or now >= self.next:
             self.next = now + watching.SECONDS_A_COUNT
-            self.write(watching.metrics(self.name, self.driver.progress, self.driver.tallies, now))
+            self.write(watching.metrics(self.name, self.driver.progress, self.driver.crew.tallies, now))
 
 
 def run_wanted(sitting: Sitting, simulator: bytes) -> None:
@@ -294,7 +294,7 @@ def told_of_workers(driver: driving.Driver | None) -> None:
     """A line of the log for each worker, with what it did."""
     if driver is None:
         return
-    for name, tally in driver.tallies.items():
+    for name, tally in driver.crew.tallies.items():
         parts = [f"{getattr(tally, number)} {number}" for number in watching.NUMBERS if getattr(tally, number)]
         aside = f"; set aside: {tally.aside}" if tally.aside else ""
         driver.progress.note(f"the worker {name}: {', '.join(parts) or 'nothing'}{aside}")
@@ -332,7 +332,7 @@ def tell_cost(campaign: Campaign, words: Words, simulator: bytes) -> None:
         iterators = [iter([Attempt(run, "") for run in chosen])]
         driver = driving.Driver(pool, 1, progress, save, longest=longest(campaign), sample=0)
         driver.drive(lambda: iterators.pop() if iterators else None, lambda: None)
-        workers = max(1, len(driver.workers))
+        workers = max(1, len(driver.crew))
     progress.end()
     each = sum(answer["seconds"] for answer in answers) / len(answers)
     processor = sum(answer["processor"] for answer in answers) / len(answers)

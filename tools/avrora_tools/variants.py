@@ -14,7 +14,7 @@ import re
 from collections.abc import Callable, Sequence
 from typing import Any
 
-from avrora_tools import campaign_keys, checkers, networks, scenarios, toml
+from avrora_tools import campaign_keys, checkers, networks, outages, runs, scenarios, toml
 from avrora_tools.campaign_keys import Table, unknown
 from avrora_tools.errors import BadInput
 from avrora_tools.files import printable
@@ -35,6 +35,7 @@ class Axis:
 
     key: str
     values: Sequence[Any]
+    length: int | None = None  # of an outage whose values are its starts
 
 
 @dataclasses.dataclass(frozen=True, slots=True)
@@ -70,12 +71,12 @@ class Run:
         """The images of this run alone, by the names that its scenario has for them; others are in the shipment."""
         return self.group.own_images(self.values)
 
-    def job(self, is_alone: bool = False) -> tuple[str, int, dict[str, bytes], tuple[int, str] | None]:
-        """The run for a worker (`runs.Job`). With `is_alone` it is not one of those that a process makes together."""
+    def job(self, is_alone: bool = False) -> runs.Job:
+        """The run for a worker. With `is_alone` it is not one of those that a process makes together."""
         group = self.group
         moves = None if is_alone else group.moves(self.values)
         text = group.shipped(self.values) if moves is None else group.unmoved
-        return text, group.check, group.own_images(self.values), moves
+        return runs.Job(text, group.check, group.own_images(self.values), moves, self.values)
 
     def recipe(self) -> str:
         """All that the scenario is made of, the content of its images too, as a text."""
@@ -155,7 +156,10 @@ class Group:
 
     def signature(self) -> str:
         """What tells this group from another one, as a text: how its runs are called, and what they are made of."""
-        axes = [[axis.key, str(axis.values) if isinstance(axis.values, range) else axis.values] for axis in self.axes]
+        axes: list[list[Any]] = []
+        for axis in self.axes:
+            axes.append([axis.key, str(axis.values) if isinstance(axis.values, range) else axis.values])
+            axes[-1] += [axis.length] if axis.length else []
         return json.dumps([self.name, axes, self.base()], default=str)
 
     def base(self) -> Any:
@@ -171,6 +175,7 @@ class ScenarioGroup(Group):
     ) -> None:
         super().__init__(place, name, axes, check)
         network = varied(scenario, place, [axis.key for axis in axes])
+        self.cuts = outages.cut_links(place, network, axes, len(axes))
         self.template = Template(scenario_text(network))
         for node in network["node"] if is_tables(network.get("node")) else []:
             node["image"] = shipped_image(node.get("image"), folder, ship)
@@ -186,14 +191,17 @@ class ScenarioGroup(Group):
             self.unmoved = self.shipped([axis.values[0] for axis in axes])
 
     def scenario(self, values: Sequence[Any]) -> str:
-        return self.template.filled([value_text(value) for value in values])
+        return self.template.filled([value_text(value) for value in values] + self.cut_texts(values))
 
     def shipped(self, values: Sequence[Any]) -> str:
         texts = []
         for index, value in enumerate(values):
             images = self.images.get(index)
             texts.append(value_text(images.get(value, value) if images and isinstance(value, str) else value))
-        return self.shipped_template.filled(texts)
+        return self.shipped_template.filled(texts + self.cut_texts(values))
+
+    def cut_texts(self, values: Sequence[Any]) -> list[str]:
+        return [outages.text_of(cut, self.axes, values) for cut in self.cuts]
 
     recipe = shipped
 
@@ -205,7 +213,7 @@ class ScenarioGroup(Group):
         return epochs, f"{node} {at} {every} {digits}\n"
 
     def base(self) -> Any:
-        return [self.shipped_template.pieces, sorted(self.images.items())]
+        return [self.shipped_template.pieces, sorted(self.images.items()), *map(str, self.cuts)]
 
 
 class NetworkGroup(Group):
@@ -306,6 +314,8 @@ def varied(scenario: Table, place: str, keys: Sequence[str]) -> Table:
     """A scenario with slots at the keys."""
     network = copy.deepcopy(scenario)
     for index, key in enumerate(keys):
+        if outages.is_outage(key):
+            continue
         parts = key.split(".")
         targets = [network] if len(parts) == 1 else tables_of(place, network, key, parts)
         if len(parts) == 1 and key in scenarios.TABLE_KEYS:
@@ -407,8 +417,8 @@ def value_text(value: Any) -> str:
     """A value as TOML, as it was read from TOML."""
     if type(value) is int:
         return str(value)
-    if isinstance(value, Slot):
-        return f"{MARK}{value.axis}{MARK}"
+    if isinstance(value, (Slot, outages.Cut)):
+        return f"{MARK}{value.axis if isinstance(value, Slot) else value.slot}{MARK}"
     if isinstance(value, dict):
         return "{" + ", ".join(f"{key_text(key)} = {value_text(it)}" for key, it in value.items()) + "}"
     if isinstance(value, list):

@@ -291,7 +291,7 @@ def draw(number):
                     with open(f"{path}/drawing.py", "w", encoding="utf-8") as file:
                         file.write(text)
                 with self.assertRaisesRegex(BadInput, f"run 1: .*{sentence}"):
-                    campaigns.read(f"{path}/c.toml").demand_code(True)
+                    campaigns.read(f"{path}/c.toml").demand_draws(True)
         with folder(self.CAMPAIGN.replace("vary.number", "vary.seed")) as path:
             with self.assertRaisesRegex(BadInput, "vary has number, and nothing else"):
                 campaigns.read(f"{path}/c.toml")

@@ -10,7 +10,7 @@ from unittest import mock
 
 from campaign_runs import folder, run_campaign
 from support import DATA, run_tool
-from avrora_tools import comparisons, runs
+from avrora_tools import comparisons, outputs, runs
 from avrora_tools.errors import BadInput
 from avrora_tools.states import EPOCH
 
@@ -125,7 +125,7 @@ class Counts(unittest.TestCase):
         )
         for size in range(1, len(rows) + 1):
             with mock.patch.object(runs, "BLOCK", size):
-                self.assertEqual(runs.looked_through(io.BytesIO(rows))[1], [1, 2, 1, 1, 1])
+                self.assertEqual(outputs.looked_through(io.BytesIO(rows))[1], [1, 2, 1, 1, 1])
 
 
 class OneByOne(unittest.TestCase):

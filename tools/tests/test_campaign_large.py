@@ -121,7 +121,7 @@ class Run:
         self.check = 0
 
     def job(self, is_alone=False):
-        return str(self.number), 0, {}, None
+        return runs.Job(str(self.number), 0, {}, None)
 
 
 class Sharing(unittest.TestCase):

@@ -185,9 +185,10 @@ def run(arguments: argparse.Namespace) -> int:
         for one in campaign.runs(arguments.shard):
             print(files.printable(one.name))
         return Status.GOOD
-    campaign.demand_code(arguments.run_code)
+    campaign.demand_draws(arguments.run_code)
     if arguments.scenario:
         return write_one(campaign, arguments)
+    campaign.demand_checks(arguments.run_code)
     words = sittings.Words(
         arguments.shard,
         arguments.order,
@@ -244,7 +245,7 @@ def configure(parser: argparse.ArgumentParser) -> None:
         "--scheduler", metavar="ADDRESS", help="a scheduler of dask, as tcp://HOST:8786; else this machine"
     )
     parser.add_argument("--jobs", type=cli.positive, metavar="N", help="processes of this machine; else one a processor")
-    parser.add_argument("--run-code", action="store_true", help="run the Python file that `draw` names in FILE")
+    parser.add_argument("--run-code", action="store_true", help="run the Python files that `draw` and `check` name in FILE")
     parser.add_argument("--results", metavar="FOLDER", help="where results go, whatever FILE says")
     parser.add_argument("--anew", action="store_true", help="run all again, also where a result is there")
     parser.add_argument(

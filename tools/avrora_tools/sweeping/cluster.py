@@ -12,7 +12,7 @@ from collections.abc import Iterable, Iterator, Sequence
 from types import TracebackType
 from typing import cast
 
-from avrora_tools import driving, pools, runs, sittings, watching
+from avrora_tools import driving, judging, pools, runs, sittings, watching
 from avrora_tools.attempts import Attempt
 from avrora_tools.errors import BadInput, CannotWork
 from avrora_tools.files import printable
@@ -45,9 +45,9 @@ class Tail:
     def job(self, is_alone: bool = False) -> runs.Job:
         tails, scenario = self.tails, self.tails.scenario
         if not tails.sweeps or is_alone:
-            return tails.text(scenario.scenario(self.move, self.window)), 0, {}, None
+            return runs.Job(tails.text(scenario.scenario(self.move, self.window)), 0, {}, None)
         text = tails.text(scenario.scenario((*self.move[:-1], None), self.window))
-        return text, 0, {}, (0, scenario.line(self.move[-1]))
+        return runs.Job(text, 0, {}, (0, scenario.line(self.move[-1])))
 
 
 class ClusterTails(ProcessTails):
@@ -86,7 +86,7 @@ class ClusterTails(ProcessTails):
         pool = pools.pool(address, None, shipment, 1, self.folder.name)
         self.drive_by(pool, sittings.Arbiter(shipment, self.stack))
 
-    def drive_by(self, pool: pools.Pool, arbiter: driving.Arbiter | None = None) -> None:
+    def drive_by(self, pool: pools.Pool, arbiter: judging.Arbiter | None = None) -> None:
         self.stack.callback(pool.close)
         progress = watching.Progress(0)
         progress.next = float("inf")  # the sweep tells how far it is
@@ -181,6 +181,6 @@ class ClusterTails(ProcessTails):
         """What a worker answered to a run was not so."""
         host = self.hosts.get(place)
         driver = self.driver
-        worker = next((it for it in driver.workers if it.name == host), None) if driver else None
+        worker = next((it for it in driver.crew.workers if it.name == host), None) if driver else None
         if driver and worker:
-            driver.doubt(worker, "what it said of a run is not so on this machine")
+            driver.judge.doubt(worker, "what it said of a run is not so on this machine")
