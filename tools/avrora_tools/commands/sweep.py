@@ -1,24 +1,34 @@
 """Moves one event of a scenario, or two, cycle by cycle, and tells after which moves a check fails, and where."""
 import argparse
+import contextlib
 import os
 import re
-import shlex
-from collections.abc import Iterator, Sequence
-from contextlib import contextmanager
+import time
+from collections.abc import Iterator
 from dataclasses import replace
 
 from avrora_tools import cases, cli, files, programs, scenarios, shipping, toml
 from avrora_tools.errors import BadInput, BadWords, Status
 from avrora_tools.states import State
-from avrora_tools.sweeping import findings as grouping
 from avrora_tools.sweeping.cluster import WRITTEN, ClusterTails
-from avrora_tools.sweeping.events import InputByte, Move, Moved, MovedScenario, is_alone, moved_scenario, parsed_event
-from avrora_tools.sweeping.findings import Finding
-from avrora_tools.sweeping.plans import Cell
-from avrora_tools.sweeping.sharing import Sharing, objects_of
-from avrora_tools.sweeping.simulation import ProcessTails, Simulator, scenario_text
-from avrora_tools.sweeping.sweep import Options, Results, Sweep
+from avrora_tools.sweeping.events import InputByte, Move, Moved, MovedScenario, moved_scenario, parsed_event
+from avrora_tools.sweeping.journal import Journal, digest
+from avrora_tools.sweeping.limits import Limit
 from avrora_tools.sweeping.rows import stops, written, written_before
+from avrora_tools.sweeping.sharing import Sharing, objects_of
+from avrora_tools.sweeping.simulation import ProcessTails, Simulator
+from avrora_tools.sweeping.sweep import ALL_FAIL, Options, Sweep
+from avrora_tools.sweeping.telling import (
+    compares_nothing,
+    first_move,
+    print_cost,
+    print_finding,
+    print_plan,
+    print_totals,
+    run_all,
+    shown_command,
+    write_earliest,
+)
 from avrora_tools.sweeping.verdicts import (
     CaseCheck,
     Check,
@@ -28,7 +38,6 @@ from avrora_tools.sweeping.verdicts import (
     nodes_of,
     predicate_of,
 )
-from avrora_tools.terminal import Progress
 
 SUMMARY = "moves an event cycle by cycle, and tells which moves break a run and where"
 
@@ -50,17 +59,14 @@ names, and it is told where a failing run parts from one that passes.
 
 Status 0: no run fails; 1: one does; 2: the words or the files are bad."""
 
-MOST_SPANS = 4  # stretches of a finding that are told
-MOST_TEXTS = 3  # and kinds of failure
-BEFORE, BEHIND = 200, 2_000  # cycles of the window of the earliest failing run, about where its byte is noticed
-
-
 def run(arguments: argparse.Namespace) -> int:
     options = Options(
         arguments.quick, arguments.grid, arguments.all, arguments.per_place, arguments.stop, arguments.runs
     )
-    with prepared(arguments) as sweep:
+    with Limit(arguments.seconds).by_signals() as limit, prepared(arguments, limit) as sweep:
         print_plan(sweep)
+        if len(sweep.cells) > ALL_FAIL and not arguments.scheduler:
+            print_cost(sweep, seconds_of_one(sweep), arguments.jobs)
         results = run_all(sweep, options)
         print_totals(sweep, results, options)
         found = sweep.findings()
@@ -70,18 +76,28 @@ def run(arguments: argparse.Namespace) -> int:
             command = write_earliest(arguments.out, sweep, found[0].first())
             print(f"earliest: {shown_command(sweep.tails.simulator, command)}")
         if compares_nothing(sweep) and not results.failures:
+            if limit.is_over():
+                return limit.status(Status.GOOD)
             raise BadInput(
                 "nothing was compared: neither the run that is not moved nor a moved one writes anything to USART0 "
                 f"from cycle {first_move(sweep.scenario):,} "
                 f"on{', except what --drop leaves out' * bool(arguments.drop)}; "
                 "--expect or --check checks what is not written"
             )
-    return Status.NOT_MET if results.failures else Status.GOOD
+    return Status.NOT_MET if results.failures else limit.status(Status.GOOD)
 
 
-@contextmanager
-def prepared(arguments: argparse.Namespace) -> Iterator[Sweep]:
-    """The sweep that the words say, with its classes, before any of them is run."""
+def seconds_of_one(sweep: Sweep) -> float:
+    """How long a run takes."""
+    begun = time.monotonic()
+    sweep.tails.output(sweep.cells[0].move())
+    return time.monotonic() - begun
+
+
+@contextlib.contextmanager
+def prepared(arguments: argparse.Namespace, limit: Limit | None = None) -> Iterator[Sweep]:
+    """The sweep that the words say, with its classes, before any of them is run. The run that is not moved is made and
+    checked first."""
     document = document_of(arguments.scenario)
     moved, order = moved_events(arguments)
     if arguments.quick and not (arguments.elf and isinstance(moved[-1].event, InputByte)):
@@ -94,10 +110,14 @@ def prepared(arguments: argparse.Namespace) -> Iterator[Sweep]:
     state_cycle = State.of_text(state.decode("ascii", "replace"), arguments.state).cycle if state else None
     scenario = moved_scenario(document, moved, arguments.until, state_cycle)
     simulator = Simulator(cli.simulator(arguments.avrora), folder_of(arguments.scenario), arguments.timeout)
-    with tails_of(arguments, simulator, scenario, state) as tails:
+    with contextlib.ExitStack() as stack:
+        tails = stack.enter_context(tails_of(arguments, simulator, scenario, state))
         check = check_of(arguments, tails, scenario, order)
+        check_unmoved(arguments, tails, scenario, check)
         program, sharing = program_of(arguments, simulator, document, moved[-1])
-        yield Sweep(tails, scenario, check, program, sharing)
+        journal = stack.enter_context(contextlib.closing(journal_of(arguments, tails, order))) if arguments.resume else None
+        sweep = Sweep(tails, scenario, check, program, sharing, limit, journal)
+        yield sweep
 
 
 def tails_of(
@@ -181,13 +201,45 @@ def check_of(arguments: argparse.Namespace, tails: ProcessTails, scenario: Moved
     )
 
 
-def first_move(scenario: MovedScenario) -> int:
-    """The first cycle in which something moves."""
-    return min(m.span.first if isinstance(m.event, InputByte) else 0 for m in scenario.moved)
+def check_unmoved(
+    arguments: argparse.Namespace, tails: ProcessTails, scenario: MovedScenario, check: Check
+) -> None:
+    """Checks the run that is not moved, so that a check that fails anyway, or cannot work, is told at once. Where that run
+    cannot be made the first move shows at least that the check works."""
+    if not isinstance(check, (CaseCheck, PredicateCheck)):
+        return  # that run is what it compares with
+    try:
+        *head, rows = reference(arguments, tails, scenario, scenario.until)
+    except BadInput:
+        first = tuple(m.span.first for m in scenario.moved)
+        check.failure(first, tails.output(first))
+        return
+    move = base_move(arguments.base, scenario) if arguments.base else scenario.unmoved()
+    if wrong := replace(check, head=b"".join(head)).failure(move, rows):
+        raise BadInput(
+            f"the run that is not moved fails too: {wrong}. Either the check is wrong for this scenario, or the deadline "
+            f"in cycle {scenario.until:,} (--until) is too near; --base VALUE names another run to begin with"
+        )
 
 
-def compares_nothing(sweep: Sweep) -> bool:
-    return isinstance(sweep.check, SerialCheck) and sweep.check.compares_nothing()
+def journal_of(arguments: argparse.Namespace, tails: ProcessTails, order: list[int]) -> Journal:
+    """The file that --resume names, of this sweep alone."""
+    if arguments.quick:
+        raise BadWords("--resume goes on with all classes, and --quick runs some: either of them")
+    scenario = tails.scenario
+    nodes: list[dict[str, str]] = scenario.document["node"]
+    images = sorted({node["image"] for node in nodes})
+    named = {"check": arguments.check, "expect": arguments.expect}
+    parts: dict[str, object] = {
+        "scenario": scenario.document,
+        "images": [(name, digest({name: files.read_bytes(os.path.join(tails.simulator.folder, name))})) for name in images],
+        "moved": [scenario.moved, order, scenario.until, scenario.begins],
+        "state": tails.state or b"",
+        "simulator": shipping.program(arguments.avrora),
+        "words": [arguments.compare, arguments.drop, sorted(arguments.nodes or []), arguments.base, arguments.all],
+        **{name: files.read_bytes(path) for name, path in named.items() if path},
+    }
+    return Journal(arguments.resume, digest(parts))
 
 
 def dropped(pattern: str) -> re.Pattern[bytes] | None:
@@ -228,130 +280,6 @@ def base_move(values: list[int], scenario: MovedScenario) -> Move:
     if len(values) != len(scenario.moved):
         raise BadWords(f"--base takes a value for each event that moves, {len(scenario.moved)} in all, bytes last")
     return tuple(values)
-
-
-# ---- what is printed
-
-
-def print_plan(sweep: Sweep) -> None:
-    events = " and ".join(f"{m.event} from {m.span.first:,} to {m.span.last:,}" for m in sweep.scenario.moved)
-    moves = sum(len(cell.arrivals.moves) for cell in sweep.cells)
-    print(f"{events}: {moves:,} moves, {len(sweep.cells):,} classes; each run ends at {sweep.scenario.until:,}")
-    if compares_nothing(sweep):
-        print(
-            "the run that is not moved writes nothing from there on: only what is written too much, and stops, can "
-            "be told"
-        )
-    for doubt in sweep.doubts:
-        print(f"{doubt}: each move is a class")
-    if sweep.stores:
-        more = f" and {len(sweep.stores) - 1:,} more" if len(sweep.stores) > 1 else ""
-        print(
-            f"interrupts are off at the store through a pointer at {sweep.shown_address(sweep.stores[0])}{more}, "
-            "which may write "
-            "SREG: behind it they count as on, which makes more classes"
-        )
-    if sweep.sharing and sweep.sharing.things:
-        print(f"used by handlers and by main: {', '.join(sweep.sharing.things)}")
-
-
-def run_all(sweep: Sweep, options: Options) -> Results:
-    progress = Progress(prints=True)
-    told = False
-    results = sweep.results
-    for results in sweep.run(options):
-        if results.first_failure and not told:
-            move, wrong, runs, seconds = results.first_failure
-            print(f"first failure: run {runs:,}, {seconds:.2f} s: {shown_move(move)}: {wrong}", flush=True)
-            told = True
-        if progress.due():
-            progress.tell(f"{results.runs:,} runs, {len(results.failures):,} classes fail")
-    progress.end()
-    return results
-
-
-def print_totals(sweep: Sweep, results: Results, options: Options) -> None:
-    speed = results.runs / results.seconds if results.seconds else 0
-    print(
-        f"{len(results.failures):,} of {len(results.ran):,} classes fail; {results.runs:,} runs in "
-        f"{results.seconds:.1f} s "
-        f"({speed:.0f} a second)"
-    )
-    if missed := sweep.classes_not_run():
-        print(f"{missed:,} of {len(sweep.cells):,} classes were not run")
-    if options.quick and not results.failures:
-        print("this was a first look, which proves nothing: without --quick all classes are run")
-
-
-def print_finding(sweep: Sweep, number: int, finding: Finding) -> None:
-    spots = " and ".join(grouping.lines_of(finding.spots))
-    used = sweep.thing_in_use(finding)
-    texts = grouping.counted([sweep.results.failures[cell] for cell in finding.failing])
-    print(
-        f"{number}. {finding.failing_arrivals:,} of {finding.arrivals:,} arrivals while {spots}"
-        + (f"; {used}" if used else "")
-        + f": {texts[0][0]}"
-    )
-    for text, count in texts[1:MOST_TEXTS]:
-        print(f"   also ({count:,} classes): {text}")
-    if len(texts) > MOST_TEXTS:
-        print(f"   and {len(texts) - MOST_TEXTS:,} other failures")
-    stretches = grouping.spans(finding.failing)
-    told = ", ".join(
-        f"{first:,}" if first == last else f"{first:,} to {last:,}" for first, last in stretches[:MOST_SPANS]
-    )
-    more = len(stretches) - MOST_SPANS
-    print(f"   moves: {told}" + (f" and {more:,} more stretches" if more > 0 else ""))
-    if late := sweep.late(finding):
-        behind = late.cycle - sweep.scenario.until
-        print(f"   late: node {late.node} writes it in cycle {late.cycle:,}, {behind:,} behind the end of the run")
-        if late.wrong_at_last:
-            print(f"   a longer --until is no help: at {sweep.scenario.document['cycles']:,} {late.wrong_at_last}")
-    if parting := sweep.parting(finding):
-        print(f"   in run {shown_move(finding.first().move())} {parting}")
-
-
-def shown_move(move: Move) -> str:
-    return ", ".join(f"{value:,}" for value in move)
-
-
-def write_earliest(path: str, sweep: Sweep, cell: Cell) -> list[str]:
-    """Writes the scenario of a failing run with a window about where its byte is noticed; a state and moves too where
-    it needs them. Returns the words by which the simulator runs it."""
-    move, point, scenario = cell.move(), cell.arrivals.point, sweep.scenario
-    at = point.cycle if point else move[-1] if isinstance(scenario.moved[-1].event, InputByte) else 0
-    window = max(scenario.begins, at - BEFORE), min(scenario.until, at + BEHIND)
-    whole = (
-        None
-        if sweep.tails.begins_in_given_state or is_alone(scenario.moved[-1].event)
-        else scenario.whole_scenario(move, window)
-    )
-    told = (*move[:-1], None) if is_alone(scenario.moved[-1].event) else move
-    document = whole or scenario.scenario(told, window)
-    words, note = ["run", path], ""
-    if whole is None:
-        files.write_whole(f"{path}.state", sweep.tails.state or b"")
-        words = ["resume", path, f"{path}.state"]
-        note = "It begins in the state beside it: "
-    if is_alone(scenario.moved[-1].event):
-        files.write_whole(f"{path}.moves", scenario.line(move[-1]))
-        words = ["sweep", path, f"{path}.state", f"{path}.moves"]
-        note = (
-            f"What arrives at node {sweep.node} is said by the moves beside it, and not here; it begins in the state "
-            "beside it:\n# "
-        )
-    events = " and ".join(f"{m.event} at {value:,}" for m, value in zip(scenario.moved, move))
-    command = shlex.join(["avrora", words[0], *(os.path.basename(word) for word in words[1:])])
-    notes = f"# The run of a sweep with {events}.\n# {note}{files.printable(command)}\n"
-    files.write_whole(path, notes + scenario_text(document))
-    return [words[0], *(os.path.abspath(word) for word in words[1:])]
-
-
-def shown_command(simulator: Simulator, words: Sequence[str]) -> str:
-    """A line for a shell, from where this tool is called, that runs the simulator where the images are."""
-    command = shlex.join([simulator.program, *words])
-    here = os.path.relpath(simulator.folder)
-    return command if here == os.curdir else f"(cd {shlex.quote(here)} && {command})"
 
 
 # ---- the command line
@@ -410,6 +338,12 @@ def configure(parser: argparse.ArgumentParser) -> None:
     )
     parser.add_argument(
         "--per-place", type=cli.positive, metavar="N", help="run N classes of each interrupted instruction at most"
+    )
+    parser.add_argument(
+        "--seconds", type=cli.positive, metavar="N", help="end after N seconds, and tell what was run"
+    )
+    parser.add_argument(
+        "--resume", metavar="FILE", help="keep what came of each run in FILE, and go on with what is not there yet"
     )
     parser.add_argument("--stop", action="store_true", help="end at the first failure")
     parser.add_argument("--runs", type=cli.positive, metavar="N", help="end after N runs")

@@ -7,8 +7,8 @@ same two points make one execution, cycle for cycle. Where it is not known wheth
 which makes more classes and never fewer. What the rows cannot tell (a stack over the registers) makes each cycle a
 point, and is told. """
 import re
-from collections.abc import Iterable, Iterator, Sequence
-from dataclasses import dataclass
+from collections.abc import Iterable, Iterator, Mapping, Sequence
+from dataclasses import dataclass, field
 
 from avrora_tools.programs import vector_name
 from avrora_tools.sweeping.interrupts import Contradiction, InterruptFlag
@@ -33,12 +33,24 @@ class Place:
     asleep: bool = False
 
 
+# What an arrival meets, by names: the flag I, the last write of the receiver's register, and of each thing that handlers and
+# main share the last write.
+Context = tuple[tuple[str, int], ...]
+
+FLAG, RECEIVER = "I", "RXEN"
+
+WRITES_RECEIVER = re.compile(r"(?:out|sbi|cbi) 0x0A\b|sts 0x002A\b")
+
+
 @dataclass(frozen=True)
 class Point:
-    """A cycle at which an arrival can be noticed."""
+    """A cycle at which an arrival can be noticed; what it meets there, and the instruction before, as far as they are
+    known."""
 
     cycle: int
     place: Place
+    context: Context = field(default=(), compare=False)
+    behind: int | None = field(default=None, compare=False)
 
 
 @dataclass(frozen=True)
@@ -63,8 +75,13 @@ class Start:
 class Watch:
     """Goes through the `instr`, `enter` and `stop` rows of a node."""
 
-    def __init__(self, start: Start) -> None:
+    def __init__(self, start: Start, written: Mapping[int, str] | None = None) -> None:
+        """`written` has the instructions that write what handlers and main share."""
         self.flag = InterruptFlag(start.is_clear)
+        self.written = written or {}
+        self.writers: dict[str, int] = {}
+        self.known: tuple[bool, Context] | None = None  # the context, and the flag that it tells
+        self.behind: int | None = None
         self.handlers: list[int] = []
         self.asleep_at = start.asleep_at  # the address to return to from the sleep
         self.next = start.cycle + 1  # the first cycle of the sleep that is no point yet
@@ -77,7 +94,7 @@ class Watch:
             if row.kind == "enter":
                 yield from self.enter(row)
             elif row.kind == "stop":
-                yield Point(row.cycle, self.place(int(row.rest[:4], 16)))
+                yield self.point(row.cycle, self.place(int(row.rest[:4], 16)))
                 return  # what arrives later is never noticed
             else:
                 yield from self.execute(row)
@@ -86,11 +103,25 @@ class Watch:
     def place(self, address: int) -> Place:
         return Place(address, tuple(self.handlers))
 
+    def point(self, cycle: int, place: Place) -> Point:
+        is_clear = self.flag.is_clear
+        if self.known is None or self.known[0] != is_clear:
+            self.known = (is_clear, ((FLAG, not is_clear), *sorted(self.writers.items())))
+        return Point(cycle, place, self.known[1], self.behind)
+
+    def note(self, address: int, text: str) -> None:
+        """An instruction is executed: who wrote last."""
+        self.behind = address
+        thing = self.written.get(address) or (RECEIVER if WRITES_RECEIVER.match(text) else None)
+        if thing and self.writers.get(thing) != address:
+            self.writers[thing] = address
+            self.known = None
+
     def sleep_until(self, cycle: int) -> Iterator[Point]:
         """Each cycle of a sleep that an interrupt could end."""
         if self.asleep_at is not None and not self.flag.is_clear:
             place = Place(self.asleep_at, tuple(self.handlers), True)
-            yield from (Point(c, place) for c in range(self.next, cycle))
+            yield from (self.point(c, place) for c in range(self.next, cycle))
             self.next = cycle
 
     def enter(self, row: Row) -> Iterator[Point]:
@@ -99,7 +130,7 @@ class Watch:
         if not self.flag.may_enter():
             raise Contradiction(row)
         if vector >= USART0_RX:  # one with a lower vector goes first, also where the byte has come
-            yield Point(row.cycle, Place(back, tuple(self.handlers), slept))
+            yield self.point(row.cycle, Place(back, tuple(self.handlers), slept))
         self.flag.enter()
         self.handlers.append(vector)
 
@@ -107,7 +138,8 @@ class Watch:
         address, text = int(row.rest[:4], 16), row.rest[5:]
         self.asleep_at = None
         if self.flag.may_enter() or NAMES_PORT.match(text) or POINTER_ACCESS.match(text):
-            yield Point(row.cycle, self.place(address))
+            yield self.point(row.cycle, self.place(address))
+        self.note(address, text)
         if self.flag.is_clear and text.startswith(POINTER_STORES):
             self.stores.add(address)
         self.flag.execute(text)
@@ -127,12 +159,20 @@ class Classes:
     stores: frozenset[int] = frozenset()
 
 
-def classes(rows: Sequence[Row], start: Start, first: int, last: int, end: int, doubt: str | None = None) -> Classes:
+def classes(
+    rows: Sequence[Row],
+    start: Start,
+    first: int,
+    last: int,
+    end: int,
+    doubt: str | None = None,
+    written: Mapping[int, str] | None = None,
+) -> Classes:
     """The classes of the arrivals from `first` to `last`; `end` is the cycle behind the rows. An arrival in the cycle
     of a point is noticed at the next one, as the processor comes first in each cycle. A `doubt` of what the rows tell
-    makes each arrival a class."""
+    makes each arrival a class. `written` has the instructions that write what handlers and main share."""
     found: list[Point] = []
-    watch = Watch(start)
+    watch = Watch(start, written)
     try:
         found = [] if doubt else list(watch.points(rows, end))
     except Contradiction as fault:

@@ -1,6 +1,6 @@
 """The cells of a sweep: the classes of the last event's values, for each value of the events before it."""
 import itertools
-from collections.abc import Iterator
+from collections.abc import Callable, Iterator, Mapping
 
 from avrora_tools.scenarios import MAX_WINDOW
 from avrora_tools.states import State
@@ -20,9 +20,20 @@ INTERRUPTS = 1 << 7  # the flag I in SREG
 class CellMaker:
     """Makes the cells from traces of runs in which the byte that moves last never comes."""
 
-    def __init__(self, tails: Tails, scenario: MovedScenario, state: State | None, doubt: str | None = None) -> None:
-        """With a `doubt` of what traces tell, each arrival is a class."""
+    def __init__(
+        self,
+        tails: Tails,
+        scenario: MovedScenario,
+        state: State | None,
+        doubt: str | None = None,
+        written: Mapping[int, str] | None = None,
+        goes_on: Callable[[int], bool] | None = None,
+    ) -> None:
+        """With a `doubt` of what traces tell, each arrival is a class. `written` has the instructions that write what
+        handlers and main share. `goes_on` is told up to which cycle the span was traced, and says whether to go on."""
         self.tails, self.scenario, self.state, self.doubt = tails, scenario, state, doubt
+        self.written, self.goes_on = written, goes_on or (lambda cycle: True)
+        self.counted_to: int | None = None  # the first cycle of the span that was not traced, where that was cut
         self.doubts: dict[str, None] = {}  # why each arrival is a class, where it is
         self.stores: set[int] = set()  # through pointers, behind which the flag I counts as set
         *self.before, self.last = scenario.moved
@@ -30,6 +41,8 @@ class CellMaker:
     def cells(self) -> Iterator[Cell]:
         """All cells, in the order of moves."""
         for values in itertools.product(*(moved.span.values() for moved in self.before)):
+            if self.counted_to is not None:
+                return
             yield from (Cell(values, one) for one in self.classes(values))
 
     def classes(self, before: Move) -> list[ArrivalClass]:
@@ -39,7 +52,10 @@ class CellMaker:
         if not isinstance(self.last.event, InputByte):
             return [ArrivalClass(range(value, value + 1)) for value in span.values()]
         rows, start, end = self.rows(before, self.last.event.node)
-        result = classes(rows, start, span.first, span.last, end, self.doubt)
+        last = span.last if self.counted_to is None else self.counted_to - 1
+        if last < span.first:
+            return []
+        result = classes(rows, start, span.first, last, end, self.doubt, self.written)
         found = result.classes
         self.stores |= result.stores
         if result.doubt:
@@ -58,6 +74,9 @@ class CellMaker:
         begin = max(self.scenario.begins, span.first - LEAD)
         rows: list[Row] = []
         for first in range(begin, end, MAX_WINDOW):
+            if not self.goes_on(first):
+                self.counted_to, end = max(span.first, first - BEHIND), first
+                break
             rows += self.window(before, node, first, min(end, first + MAX_WINDOW))
         while begin > self.scenario.begins and (not rows or rows[0].cycle > span.first):
             first = max(self.scenario.begins, begin - MAX_WINDOW)  # asleep as the span begins: since when, and where

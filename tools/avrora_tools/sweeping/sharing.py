@@ -39,11 +39,12 @@ NEAR_READ, NEAR_WRITE = 48, 4
 
 @dataclass(frozen=True, order=True)
 class Use:
-    """An instruction that uses a thing: its word address, the function, whether it reads."""
+    """An instruction that uses a thing: its word address, the function, whether it reads, whether it writes."""
 
     address: int
     function: str
     reads: bool
+    writes: bool = False
 
 
 @dataclass(frozen=True)
@@ -69,6 +70,10 @@ class Sharing:
         self.things = [thing for thing, uses in self.uses.items() if thing != SLEEP and self.is_shared(uses)]
         self.between = self.addresses_between()
         self.watched = {use.address: thing for thing in [*self.things, SLEEP] for use in self.uses[thing]}
+        self.written = {use.address: thing for thing in self.things for use in self.uses[thing] if use.writes}
+        self.handed_over = {  # what handlers write, and main uses
+            thing for thing in self.things if any(u.writes and u.function in self.of_handlers for u in self.uses[thing])
+        }
 
     def name_at(self, address: int) -> str:
         function = self.program.function_at(address)
@@ -94,7 +99,7 @@ class Sharing:
             if at in registers:
                 self.timer_uses[address].add(timer)
         if thing := self.thing(at):
-            self.uses[thing].append(Use(address, function, name in READS))
+            self.uses[thing].append(Use(address, function, name in READS, name not in READS or name in BOTH_WAYS))
 
     def thing(self, at: int) -> str | None:
         """What a data address belongs to."""

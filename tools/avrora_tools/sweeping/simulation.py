@@ -8,8 +8,8 @@ import subprocess
 import tempfile
 import threading
 from collections import deque
-from collections.abc import Iterable, Iterator, Sequence
-from concurrent.futures import Future, ThreadPoolExecutor
+from collections.abc import Callable, Iterable, Iterator, Sequence
+from concurrent.futures import Future, ThreadPoolExecutor, wait
 from types import TracebackType
 from typing import Protocol
 
@@ -24,6 +24,7 @@ Window = tuple[int, int]
 NO_WINDOW = (0, 0)
 
 MOST_IN_BATCH = 64  # runs of one process
+SECONDS_A_LOOK = 0.2  # at whether to go on, while a run takes long
 
 
 class Tails(Protocol):
@@ -79,6 +80,7 @@ class ProcessTails:
         self.head = b""  # the rows before the state, where they are known
         self.begins_in_given_state = state is not None
         self.threads: ThreadPoolExecutor | None = None  # of the runs that are asked for, while there are any
+        self.is_over: Callable[[], bool] = never  # whether no more runs are to be made, nor waited for
         if state is None and scenario.begins:
             try:
                 state = self.saved()
@@ -146,12 +148,21 @@ class ProcessTails:
         try:
             for before, window, values in batches(jobs, MOST_IN_BATCH if self.sweeps else 1):
                 waiting.append(threads.submit(self.batch, before, window, values))
-                if len(waiting) > self.jobs:
+                if len(waiting) > self.jobs and self.has_come(waiting[0]):
                     yield from waiting.popleft().result()
-            while waiting:
+                if self.is_over():
+                    break
+            while waiting and self.has_come(waiting[0]):
                 yield from waiting.popleft().result()
         finally:
             self.end_runs()
+
+    def has_come(self, batch: Future[list[bytes]]) -> bool:
+        """Waits for a batch. False where all is over before it has come."""
+        while not wait([batch], SECONDS_A_LOOK).done:
+            if self.is_over():
+                return False
+        return True
 
     def end_runs(self) -> None:
         """Ends all runs that nobody asks for any more, and waits for their threads."""
@@ -175,6 +186,10 @@ class ProcessTails:
         if self.sweeps:
             return self.swept(before, values, window)
         return [self.output((*before, value), window) for value in values]
+
+
+def never() -> bool:
+    return False
 
 
 def batches(jobs: Iterable[tuple[Move, Window]], most: int) -> Iterator[tuple[Move, Window, list[int]]]:

@@ -6,16 +6,25 @@ from dataclasses import dataclass, field
 from avrora_tools.programs import Program
 from avrora_tools.states import EPOCH, State
 from avrora_tools.sweeping import evidence
+from avrora_tools.sweeping.arrivals import RECEIVER
 from avrora_tools.sweeping.cells import CellMaker
 from avrora_tools.sweeping.doubts import stack_doubt
 from avrora_tools.sweeping.events import InputByte, Move, MovedScenario
-from avrora_tools.sweeping.findings import Finding, Spots, findings
+from avrora_tools.sweeping.findings import NEVER, Finding, Spots, findings
+from avrora_tools.sweeping.journal import Journal
+from avrora_tools.sweeping.limits import Limit, Teller
 from avrora_tools.sweeping.ordering import Clock, Enter, dividers, steps
-from avrora_tools.sweeping.plans import Cell, FirstLook, in_rounds
+from avrora_tools.sweeping.plans import Cell, FirstLook, in_rounds, spread
 from avrora_tools.sweeping.rows import processor_rows
-from avrora_tools.sweeping.sharing import Sharing
+from avrora_tools.sweeping.sharing import SLEEP, Sharing
 from avrora_tools.sweeping.simulation import NO_WINDOW, ProcessTails, Window
 from avrora_tools.sweeping.verdicts import Check, Late, SerialCheck
+
+
+ALL_FAIL = 50  # so many runs that all fail, and those that are run to see whether any does not
+OTHERS = 8
+
+COUNTING = 0.5  # the share of a sweep's time that counting classes may take
 
 
 @dataclass(frozen=True)
@@ -39,6 +48,13 @@ class Results:
     runs: int = 0
     seconds: float = 0.0
     first_failure: tuple[Move, str, int, float] | None = None  # the move, what is wrong, after so many runs and seconds
+    before: int = 0  # runs of an earlier sitting
+    all_fail: bool = False  # so many that the rest is not run
+
+    def take(self, cell: Cell, move: Move, wrong: str | None) -> None:
+        self.ran[cell] = None
+        if wrong:
+            self.failures.setdefault(cell, wrong)
 
 
 class Sweep:
@@ -51,19 +67,32 @@ class Sweep:
         check: Check,
         program: Program | None,
         sharing: Sharing | None,
+        limit: Limit | None = None,
+        journal: Journal | None = None,
     ) -> None:
+        """Counts the classes, as long as the limit lets it."""
         self.tails, self.scenario, self.check = tails, scenario, check
         self.program, self.sharing = program, sharing
+        self.limit, self.journal = limit or Limit(), journal
+        self.teller = Teller()
         last = scenario.moved[-1].event
         self.node = last.node if isinstance(last, InputByte) else last.hearer
         state = State.of_text(tails.state.decode(), "the state") if tails.state else None
         self.state = state
-        maker = CellMaker(tails, scenario, state, self.doubt() if isinstance(last, InputByte) else None)
+        doubt = self.doubt() if isinstance(last, InputByte) else None
+        maker = CellMaker(tails, scenario, state, doubt, sharing.written if sharing else None, self.goes_on_counting)
         self.cells = list(maker.cells())
+        self.counted_to = maker.counted_to  # the first cycle of the span whose classes are not known, where that was cut
         self.doubts = list(maker.doubts)  # why each move is a class, where traces tell too little
         self.stores = sorted(maker.stores)
         self.between: Mapping[int, str] = sharing.between if sharing else {}
         self.results = Results()
+
+    def goes_on_counting(self, cycle: int) -> bool:
+        span = self.scenario.moved[-1].span
+        if self.teller.is_due():
+            self.teller.tell(f"counting classes: at cycle {cycle:,} of {span.first:,} to {span.last:,}")
+        return not self.limit.is_over(COUNTING)
 
     def doubt(self) -> str | None:
         """Why traces of the node may not tell which arrivals make one execution."""
@@ -76,18 +105,31 @@ class Sweep:
     def run(self, options: Options) -> Iterator[Results]:
         """Makes the runs, and tells after each what has come of them."""
         begun = time.monotonic()
+        results = self.results
+        self.tails.is_over = self.limit.is_over
         outputs = self.first_look(options) if options.quick else self.all_outputs(options)
         for cell, move, place, output in outputs:
-            results = self.results
             results.runs += 1
-            results.ran[cell] = None
             results.seconds = time.monotonic() - begun
-            if wrong := self.failure(move, place, output):
-                results.failures.setdefault(cell, wrong)
+            wrong = self.failure(move, place, output)
+            results.take(cell, move, wrong)
+            if self.journal:
+                self.journal.keep(move, wrong)
+            if wrong:
                 results.first_failure = results.first_failure or (move, wrong, results.runs, results.seconds)
             yield results
-            if results.failures and options.stop or results.runs == options.runs:
+            results.all_fail = results.runs == len(results.failures) == ALL_FAIL and self.others_fail(options)
+            if results.failures and options.stop or results.runs == options.runs or results.all_fail:
                 return
+
+    def others_fail(self, options: Options) -> bool:
+        """Whether classes that lie far apart fail too, where all that were run do."""
+        others = [cell for cell in self.cells if cell not in self.results.ran and self.chosen(cell, options)]
+        for cell in [others[i] for i in spread(len(others))[:OTHERS]]:
+            move = cell.move()
+            if self.check.failure(move, self.tails.output(move)) is None:
+                return False
+        return bool(others)
 
     def failure(self, move: Move, place: int, output: bytes) -> str | None:
         """What is wrong with a run, which is the one of this place among those that were asked for. Where others made it, it is
@@ -109,7 +151,13 @@ class Sweep:
 
     def all_outputs(self, options: Options) -> Iterator[tuple[Cell, Move, int, bytes]]:
         cells = in_rounds(self.cells, self.between, options.per_place)
-        jobs = [(cell, move) for cell in cells for move in self.chosen(cell, options)]
+        known = self.journal.known if self.journal else {}
+        every = [(cell, move) for cell in cells for move in self.chosen(cell, options)]
+        for cell, move in every:
+            if move in known:
+                self.results.before += 1
+                self.results.take(cell, move, known[move])
+        jobs = [(cell, move) for cell, move in every if move not in known]
         outputs = self.tails.outputs((move, NO_WINDOW) for _, move in jobs)
         for place, ((cell, move), output) in enumerate(zip(jobs, outputs)):
             yield cell, move, place, output
@@ -149,7 +197,9 @@ class Sweep:
 
     def findings(self) -> list[Finding]:
         ran = [cell for cell in self.cells if cell in self.results.ran]
-        return findings(ran, self.results.failures, Spots(self.program))
+        sharing = self.sharing
+        used = {at: it for at, it in sharing.watched.items() if it in sharing.handed_over} if sharing else {}
+        return findings(ran, self.results.failures, Spots(self.program), used)
 
     def classes_not_run(self) -> int:
         return len(self.cells) - len(self.results.ran)
@@ -177,15 +227,46 @@ class Sweep:
             found = found or one
         return evidence.described(found, self.sharing) if found else None
 
-    def thing_in_use(self, finding: Finding) -> str | None:
-        """What is used by the code that the arrivals of a finding interrupt, and by handlers too."""
+    def things_in_use(self, finding: Finding) -> list[str]:
+        """What handlers write and main uses at the ends of the failing stretch; where that is nothing, what is shared and
+        used about its places."""
+        assert self.sharing is not None
+        at_ends = [self.sharing.watched.get(address) for address in finding.ends() if address is not None]
+        found = dict.fromkeys(thing for thing in at_ends if thing in self.sharing.handed_over)
+        if found:
+            return [thing for thing in found if thing]
         places: Sequence[int] = [
             place.address for cell in finding.failing if (place := cell.place()) and not place.asleep
         ]
-        things = dict.fromkeys(self.between[address] for address in places if address in self.between)
+        return list(dict.fromkeys(self.between[address] for address in places if address in self.between))
+
+    def thing_in_use(self, finding: Finding) -> str | None:
+        """What is used by the code that the arrivals of a finding interrupt, and by handlers too."""
+        things = self.things_in_use(finding) if self.sharing else []
         if not things or self.sharing is None:
             return None
         users = dict.fromkeys(user for thing in things for user in self.sharing.users(thing))
-        names = " and ".join("the sleep" if thing == "sleep" else f"`{thing}`" for thing in things)
+        names = " and ".join("the sleep" if thing == SLEEP else f"`{thing}`" for thing in things)
         are = "are" if len(things) > 1 else "is"
         return f"{names} {are} used here and in {' and '.join(f'`{user}`' for user in users)}"
+
+    def ends(self, finding: Finding) -> str | None:
+        """Both ends of the first stretch in words, and what tells it from its failing neighbours."""
+        if self.program is None or finding.ends()[1] is None:
+            return None
+        behind, before = (self.end_text(address) for address in finding.ends())
+        told = f"behind {behind} and before {before}" if behind else f"before {before}"
+        told = f"at {before}" if behind == before else told
+        for name, address in finding.label:
+            if name == RECEIVER and address == NEVER:
+                told += "; the receiver is not enabled yet, and a byte is lost"
+        return told
+
+    def end_text(self, address: int | None) -> str | None:
+        """An instruction with the line of its source and what it uses."""
+        if address is None or self.program is None:
+            return None
+        line = self.program.line_at(address)
+        thing = self.sharing.watched.get(address) if self.sharing else None
+        name = f"`{thing}` " if thing and thing != SLEEP else "the sleep " if thing else ""
+        return f"{name}at {line} ({address:04X})" if line else f"{name}at {self.program.place(address)} ({address:04X})"

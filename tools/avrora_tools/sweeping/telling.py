@@ -1,0 +1,173 @@
+"""What a sweep tells: its plan, its totals, its findings, and the scenario of its earliest failing run."""
+import os
+import shlex
+from collections.abc import Sequence
+
+from avrora_tools import files
+from avrora_tools.sweeping import findings as grouping
+from avrora_tools.sweeping.events import InputByte, Move, MovedScenario, is_alone
+from avrora_tools.sweeping.findings import Finding
+from avrora_tools.sweeping.limits import shown_time
+from avrora_tools.sweeping.plans import Cell
+from avrora_tools.sweeping.simulation import Simulator, scenario_text
+from avrora_tools.sweeping.sweep import ALL_FAIL, Options, Results, Sweep
+from avrora_tools.sweeping.verdicts import SerialCheck
+
+MOST_SPANS = 4  # stretches of a finding that are told
+MOST_TEXTS = 3  # and kinds of failure
+BEFORE, BEHIND = 200, 2_000  # cycles of the window of the earliest failing run, about where its byte is noticed
+
+LONG = 600  # seconds, above which it is told what would make a sweep shorter
+
+
+def first_move(scenario: MovedScenario) -> int:
+    """The first cycle in which something moves."""
+    return min(m.span.first if isinstance(m.event, InputByte) else 0 for m in scenario.moved)
+
+
+def compares_nothing(sweep: Sweep) -> bool:
+    return isinstance(sweep.check, SerialCheck) and sweep.check.compares_nothing()
+
+
+def print_plan(sweep: Sweep) -> None:
+    events = " and ".join(f"{m.event} from {m.span.first:,} to {m.span.last:,}" for m in sweep.scenario.moved)
+    moves = sum(len(cell.arrivals.moves) for cell in sweep.cells)
+    print(f"{events}: {moves:,} moves, {len(sweep.cells):,} classes; each run ends at {sweep.scenario.until:,}")
+    if compares_nothing(sweep):
+        print(
+            "the run that is not moved writes nothing from there on: only what is written too much, and stops, can "
+            "be told"
+        )
+    for doubt in sweep.doubts:
+        print(f"{doubt}: each move is a class")
+    if sweep.stores:
+        more = f" and {len(sweep.stores) - 1:,} more" if len(sweep.stores) > 1 else ""
+        print(
+            f"interrupts are off at the store through a pointer at {sweep.shown_address(sweep.stores[0])}{more}, "
+            "which may write "
+            "SREG: behind it they count as on, which makes more classes"
+        )
+    if sweep.sharing and sweep.sharing.things:
+        print(f"used by handlers and by main: {', '.join(sweep.sharing.things)}")
+
+
+def run_all(sweep: Sweep, options: Options) -> Results:
+    told = False
+    results = sweep.results
+    for results in sweep.run(options):
+        if results.first_failure and not told:
+            move, wrong, runs, seconds = results.first_failure
+            print(f"first failure: run {runs:,}, {seconds:.2f} s: {shown_move(move)}: {wrong}", flush=True)
+            told = True
+        if sweep.teller.is_due():
+            done, total = len(results.ran), len(sweep.cells)
+            left = results.seconds * (total - done) / results.runs
+            about = f"; about {shown_time(left)} to go" if not options.quick else ""
+            sweep.teller.tell(f"{done:,} of {total:,} classes run, {len(results.failures):,} fail{about}")
+    return results
+
+
+def print_cost(sweep: Sweep, seconds_a_run: float, jobs: int) -> None:
+    """How long all classes take, by one run, and what would make it shorter where that is long."""
+    expected = len(sweep.cells) * seconds_a_run / jobs
+    print(f"all classes take about {shown_time(expected)}, {jobs} at a time, by the time of one run", flush=True)
+    if expected >= LONG:
+        print(
+            "shorter: --seconds N ends in time and --resume FILE goes on from there; a span about one place "
+            "(`avrora-tools when` tells its cycles); --quick with -e is a first look; --per-place N; A..B/STEP; --until "
+            "nearer to the span",
+            flush=True,
+        )
+
+
+def print_totals(sweep: Sweep, results: Results, options: Options) -> None:
+    speed = results.runs / results.seconds if results.seconds else 0
+    earlier = f" and {results.before:,} before" if results.before else ""
+    print(
+        f"{len(results.failures):,} of {len(results.ran):,} classes fail; {results.runs:,} runs in "
+        f"{results.seconds:.1f} s "
+        f"({speed:.0f} a second){earlier}"
+    )
+    if sweep.counted_to is not None:
+        print(f"classes were counted up to cycle {sweep.counted_to:,} alone, as counting took half of the time")
+    if sweep.limit.is_over():
+        print(f"cut: {sweep.limit.reason()}")
+    if results.all_fail:
+        print(f"the first {ALL_FAIL} runs all fail, and others far from them: the deadline (--until) or the check, no race")
+    if missed := sweep.classes_not_run():
+        print(f"{missed:,} of {len(sweep.cells):,} classes were not run")
+    if options.quick and not results.failures:
+        print("this was a first look, which proves nothing: without --quick all classes are run")
+
+
+def print_finding(sweep: Sweep, number: int, finding: Finding) -> None:
+    spots = " and ".join(grouping.lines_of(finding.spots))
+    used = sweep.thing_in_use(finding)
+    texts = grouping.counted([sweep.results.failures[cell] for cell in finding.failing])
+    print(
+        f"{number}. {finding.failing_arrivals:,} of {finding.arrivals:,} arrivals while {spots}"
+        + (f"; {used}" if used else "")
+        + f": {texts[0][0]}"
+    )
+    for text, count in texts[1:MOST_TEXTS]:
+        print(f"   also ({count:,} classes): {text}")
+    if len(texts) > MOST_TEXTS:
+        print(f"   and {len(texts) - MOST_TEXTS:,} other failures")
+    stretches = grouping.spans(finding.failing)
+    told = ", ".join(
+        f"{first:,}" if first == last else f"{first:,} to {last:,}" for first, last in stretches[:MOST_SPANS]
+    )
+    more = len(stretches) - MOST_SPANS
+    print(f"   moves: {told}" + (f" and {more:,} more stretches" if more > 0 else ""))
+    if ends := sweep.ends(finding):
+        print(f"   {ends}")
+    if late := sweep.late(finding):
+        behind = late.cycle - sweep.scenario.until
+        print(f"   late: node {late.node} writes it in cycle {late.cycle:,}, {behind:,} behind the end of the run")
+        if late.wrong_at_last:
+            print(f"   a longer --until is no help: at {sweep.scenario.document['cycles']:,} {late.wrong_at_last}")
+    if parting := sweep.parting(finding):
+        print(f"   in run {shown_move(finding.first().move())} {parting}")
+
+
+def shown_move(move: Move) -> str:
+    return ", ".join(f"{value:,}" for value in move)
+
+
+def write_earliest(path: str, sweep: Sweep, cell: Cell) -> list[str]:
+    """Writes the scenario of a failing run with a window about where its byte is noticed; a state and moves too where
+    it needs them. Returns the words by which the simulator runs it."""
+    move, point, scenario = cell.move(), cell.arrivals.point, sweep.scenario
+    at = point.cycle if point else move[-1] if isinstance(scenario.moved[-1].event, InputByte) else 0
+    window = max(scenario.begins, at - BEFORE), min(scenario.until, at + BEHIND)
+    whole = (
+        None
+        if sweep.tails.begins_in_given_state or is_alone(scenario.moved[-1].event)
+        else scenario.whole_scenario(move, window)
+    )
+    told = (*move[:-1], None) if is_alone(scenario.moved[-1].event) else move
+    document = whole or scenario.scenario(told, window)
+    words, note = ["run", path], ""
+    if whole is None:
+        files.write_whole(f"{path}.state", sweep.tails.state or b"")
+        words = ["resume", path, f"{path}.state"]
+        note = "It begins in the state beside it: "
+    if is_alone(scenario.moved[-1].event):
+        files.write_whole(f"{path}.moves", scenario.line(move[-1]))
+        words = ["sweep", path, f"{path}.state", f"{path}.moves"]
+        note = (
+            f"What arrives at node {sweep.node} is said by the moves beside it, and not here; it begins in the state "
+            "beside it:\n# "
+        )
+    events = " and ".join(f"{m.event} at {value:,}" for m, value in zip(scenario.moved, move))
+    command = shlex.join(["avrora", words[0], *(os.path.basename(word) for word in words[1:])])
+    notes = f"# The run of a sweep with {events}.\n# {note}{files.printable(command)}\n"
+    files.write_whole(path, notes + scenario_text(document))
+    return [words[0], *(os.path.abspath(word) for word in words[1:])]
+
+
+def shown_command(simulator: Simulator, words: Sequence[str]) -> str:
+    """A line for a shell, from where this tool is called, that runs the simulator where the images are."""
+    command = shlex.join([simulator.program, *words])
+    here = os.path.relpath(simulator.folder)
+    return command if here == os.curdir else f"(cd {shlex.quote(here)} && {command})"
