@@ -84,9 +84,9 @@ def span_of(arguments: argparse.Namespace, run: Run) -> tuple[int, int]:
 
 def run(arguments: argparse.Namespace) -> int:
     if bool(arguments.names) == bool(arguments.breaks):
-        raise BadWords("name what is to be watched, or a condition (--breaks)")
+        raise BadWords("name what is to be watched (-w), or a condition (--breaks)")
     if arguments.last_before is not None and (arguments.breaks or arguments.end is not None):
-        raise BadWords("--last-before takes names, and no --until")
+        raise BadWords("--last-before takes names (-w), and no --until")
     scenario = Scenario.load(arguments.scenario)
     nodes = sorted(arguments.nodes if arguments.nodes is not None else range(len(scenario.images)))
     if nodes[-1] >= len(scenario.images):
@@ -124,11 +124,20 @@ def tell_broken(
 
 
 def configure(parser: argparse.ArgumentParser) -> None:
-    cli.describe(parser, DESCRIPTION, "changes -e packet.elf -n 0 --last-before 172_721 packet.toml 'queue*'")
+    cli.describe(parser, DESCRIPTION, "changes -e packet.elf -n 0 -w 'whole*' --last-before 172_721 packet.toml")
     cli.add_simulator(parser)
     cli.add_nodes(parser)
     cli.add_clock(parser)
     add_elf(parser)
+    parser.add_argument(
+        "-w",
+        "--watch",
+        action="append",
+        default=[],
+        dest="names",
+        metavar="NAME",
+        help="a variable, register or pattern",
+    )
     parser.add_argument("--state", metavar="STATE", help="a state of the scenario in which the run begins; else reset")
     parser.add_argument(
         "--from", dest="first", type=cli.natural, metavar="CYCLE", help="from this cycle on; else from the beginning"
@@ -145,4 +154,3 @@ def configure(parser: argparse.ArgumentParser) -> None:
         "--no-writers", action="store_true", help="do not look who wrote, which takes a moment for each change"
     )
     parser.add_argument("scenario", metavar="SCENARIO")
-    parser.add_argument("names", nargs="*", metavar="NAME")

@@ -16,6 +16,7 @@ from typing import NamedTuple
 from avrora_tools import files, toml
 from avrora_tools.commands.window import windowed
 from avrora_tools.errors import BadInput, CannotWork
+from avrora_tools.observing.places import Change, Place, change_of, text_of
 from avrora_tools.scenarios import MAX_WINDOW, Scenario
 from avrora_tools.states import EPOCH, State
 
@@ -94,6 +95,7 @@ class History:
         self.state = functools.lru_cache(KEPT_STATES)(self.looked)
         self.window = functools.lru_cache(KEPT_WINDOWS)(self.read_window)
         self.events = functools.lru_cache(KEPT_EPOCHS)(self.read_events)
+        self.changed = functools.lru_cache(KEPT_EPOCHS)(self.read_changes)
 
     # ---- the simulator
 
@@ -211,18 +213,18 @@ class History:
         for span, text in self.searched(first, end):
             yield from found_in(text, max(first, span), end, like)
 
-    def hits_back(self, end: int, like: re.Pattern[bytes]) -> Iterator[tuple[int, Traced]]:
-        """Those before a cycle, the last first."""
-        for span, text in self.searched_back(end):
-            yield from found_back(text, span, end, like)
+    def hits_back(self, end: int, like: re.Pattern[bytes], first: int | None = None) -> Iterator[tuple[int, Traced]]:
+        """Those before a cycle and from another on, which is the run's first where it is None; the last first."""
+        lowest = self.first if first is None else first
+        for span, text in self.searched_back(lowest, end):
+            yield from found_back(text, max(span, lowest), end, like)
 
     def searched(self, first: int, end: int) -> Iterator[tuple[int, bytes]]:
         """The traces of the spans from a cycle on, some made ahead."""
         return self.made_ahead(range(first // SEARCH_SPAN, spans(min(end, self.limit), SEARCH_SPAN)))
 
-    def searched_back(self, end: int) -> Iterator[tuple[int, bytes]]:
-        lowest = self.first // SEARCH_SPAN
-        return self.made_ahead(range(spans(min(end, self.limit), SEARCH_SPAN) - 1, lowest - 1, -1))
+    def searched_back(self, first: int, end: int) -> Iterator[tuple[int, bytes]]:
+        return self.made_ahead(range(spans(min(end, self.limit), SEARCH_SPAN) - 1, first // SEARCH_SPAN - 1, -1))
 
     def made_ahead(self, numbers: Sequence[int]) -> Iterator[tuple[int, bytes]]:
         """The traces of spans in the order of their numbers; while one is looked at, the next are made."""
@@ -264,6 +266,18 @@ class History:
             del self.traces[next(iter(self.traces))]
         return text
 
+    # ---- bytes that change
+
+    def read_changes(self, epoch: int, places: tuple[Place, ...]) -> list[Change]:
+        """What happens in an epoch at places."""
+        first, end = max(epoch * EPOCH, self.first), min((epoch + 1) * EPOCH, self.limit)
+        with tempfile.NamedTemporaryFile("w", dir=self.own, encoding="ascii") as file:
+            file.write(text_of(places))
+            file.flush()
+            start = self.checkpoint(epoch)
+            text = self.run("watch", self.path, str(first), str(end), file.name, *([start] if start else []))
+        return [change_of(line) for line in text.decode("ascii").splitlines(keepends=True)]
+
     # ---- sends, samples, USART0
 
     def read_events(self, epoch: int) -> list[Happened]:
@@ -276,6 +290,13 @@ class History:
             text = self.run(*(["resume", file.name, start] if start else ["run", "--plain", file.name]))
         rows = (Happened(int(it[1]), int(it[2]), it[3].decode(), it[4].decode()) for it in OTHER.finditer(text))
         return [row for row in rows if first <= row.cycle < end]
+
+    def stops(self, first: int, end: int) -> Iterator[tuple[int, Traced]]:
+        """The rows with which nodes stop in the epoch of a cycle, from that cycle on and before another."""
+        for one in self.events(first // EPOCH):
+            if one.kind == "stop" and first <= one.cycle < end:
+                address, _, cause = one.rest.partition(" ")
+                yield one.node, Traced(one.cycle, one.kind, int(address, 16), cause)
 
     def events_from(self, cycle: int) -> Iterator[Happened]:
         """The events behind a cycle, in order."""

@@ -8,9 +8,10 @@ from avrora_tools import images
 from avrora_tools.debugging import target
 from avrora_tools.debugging.history import History, Traced, rows_like
 from avrora_tools.debugging.packets import Channel
+from avrora_tools.debugging.watchpoints import Range, Watchpoints, Write
 from avrora_tools.debugging.words import Words
 from avrora_tools.errors import ToolError
-from avrora_tools.states import Node
+from avrora_tools.states import EPOCH, Node
 
 TRAP, INTERRUPTED, ILLEGAL = 5, 2, 4  # numbers of signals, as gdb has them
 LARGEST_PACKET = 0x4000
@@ -81,6 +82,9 @@ class Session:
         self.points: dict[int, int] = {}  # word addresses of breakpoints: how often each is set
         # Where gdb stood before it took its breakpoints out for one step: those of other nodes may have been passed by.
         self.unseen: Place | None = None
+        self.watches = Watchpoints(history)
+        # The write behind which gdb stands, where it stopped for one.
+        self.told_write: tuple[Place, Write] | None = None
         self.shows_interrupts = False
         history.refuse_changes()
         self.flashes = [images.load(os.path.join(history.place, image)) for image in history.scenario.images]
@@ -113,8 +117,10 @@ class Session:
             (b"T", self.is_alive),
             (b"Z0", self.set_point),
             (b"Z1", self.set_point),
+            (b"Z2", self.set_watch),
             (b"z0", self.clear_point),
             (b"z1", self.clear_point),
+            (b"z2", self.clear_watch),
             (b"bs", lambda _: self.told(self.step_back())),
             (b"bc", lambda _: self.told(self.go_back())),
             (b"s", self.step_on),
@@ -232,6 +238,15 @@ class Session:
             self.points[word] = left
         return b"OK"
 
+    def set_watch(self, packet: bytes) -> bytes:
+        if self.watches.insert(range_of(packet), self.at.node):
+            return b"OK"
+        return b"E.only registers, SP, SREG, kept I/O bytes and the SRAM can be watched"
+
+    def clear_watch(self, packet: bytes) -> bytes:
+        self.watches.remove(range_of(packet))
+        return b"OK"
+
     # ---- runs through time
 
     def resume(self, packet: bytes) -> bytes:
@@ -301,34 +316,124 @@ class Session:
         return None
 
     def go_on(self, only: int | None = None) -> Stop:
-        """To the next breakpoint of any node, or of one alone; to a stop, or to the end of the run."""
+        """To the next breakpoint of any node, or of one alone; behind the next write of what is watched; to a stop, or
+        to the end of the run."""
         start, own = self.unseen or self.at, self.at
         self.unseen = None
-        nodes = None if only is None else {only}
-        for node, row in self.interruptible(
-            self.history.hits(start.cycle, self.history.limit, rows_like(nodes, self.points))
-        ):
+        self.watches.go()
+        for first, end in self.spans_on(start.cycle):
+            write = self.next_write(first // EPOCH, own, only)
+            row = self.next_hit(start, own, (first, write.last + 1 if write else end), only)
+            if isinstance(row, Stop):
+                return row
+            if write and (row is None or Place(write.last, write.node) < self.at):
+                return self.written(write)
+            if row:
+                return self.hit(row)
+        return self.at_end()
+
+    def next_hit(self, start: Place, own: Place, span: tuple[int, int], only: int | None) -> Traced | Stop | None:
+        """The next breakpoint or stop in a span, where this then stands; Stop where gdb asks to stop before."""
+        like = rows_like(None if only is None else {only}, self.points)
+        for node, row in self.interruptible(self.hits_in(span, like, only)):
             if node is None or row is None:
                 return Stop(INTERRUPTED)
             here = Place(row.cycle, node)
-            if here <= start or (node == own.node and row.cycle <= own.cycle):
-                continue
-            self.at = here
-            return self.hit(row)
-        return self.at_end()
+            if here > start and not (node == own.node and row.cycle <= own.cycle):
+                self.at = here
+                return row
+        return None
+
+    def hits_in(self, span: tuple[int, int], like: re.Pattern[bytes], only: int | None) -> Iterator[tuple[int, Traced]]:
+        """Breakpoints and stops in a span; without breakpoints no instruction is traced."""
+        if self.points:
+            yield from self.history.hits(*span, like)
+            return
+        self.history.was_stopped = self.channel.has_interrupt()
+        if not self.history.was_stopped:
+            yield from ((node, row) for node, row in self.history.stops(*span) if only in (None, node))
+
+    def hits_back_in(self, span: tuple[int, int]) -> Iterator[tuple[int, Traced]]:
+        """The same of all nodes, the last first."""
+        if self.points:
+            yield from self.history.hits_back(span[1], rows_like(None, self.points), span[0])
+            return
+        self.history.was_stopped = self.channel.has_interrupt()
+        if not self.history.was_stopped:
+            yield from reversed(list(self.history.stops(*span)))
+
+    def spans_on(self, cycle: int) -> Iterator[tuple[int, int]]:
+        """Spans that are searched one behind another, from a cycle on: epochs, where what is watched may be written in
+        them or nothing is to be traced."""
+        if self.points and not self.watches.here:
+            yield cycle, self.history.limit
+            return
+        for epoch in range(cycle // EPOCH, -(-self.history.limit // EPOCH)):
+            yield max(cycle, epoch * EPOCH), min((epoch + 1) * EPOCH, self.history.limit)
+
+    def spans_back(self, cycle: int) -> Iterator[tuple[int, int]]:
+        """The same back, from before a cycle."""
+        lowest = self.history.first
+        if self.points and not self.watches.here:
+            yield lowest, cycle
+            return
+        for epoch in range(max(cycle - 1, 0) // EPOCH, lowest // EPOCH - 1, -1):
+            yield max(epoch * EPOCH, lowest), min((epoch + 1) * EPOCH, cycle)
+
+    def next_write(self, epoch: int, own: Place, only: int | None) -> Write | None:
+        """The first write of what is watched in an epoch that is not behind this."""
+        told = self.told_write[1] if self.told_write and self.told_write[0] == own else None
+        floor = Place(told.last, told.node) if told else own
+        for write in self.watches.writes(epoch, only):
+            here = Place(write.last, write.node)
+            if here > floor or not told and here == floor:
+                return write
+        return None
+
+    def written(self, write: Write) -> Stop:
+        """Behind a write: where the node goes on."""
+        self.unseen = Place(write.last, write.node)
+        self.at = Place(write.last + 1, write.node)
+        self.told_write = (self.at, write)
+        return self.watch_stop(write)
+
+    def watch_stop(self, write: Write) -> Stop:
+        return Stop(more=f"watch:{target.DATA_SPACE + write.watched.first:x};")
 
     def go_back(self) -> Stop:
-        """To the last breakpoint of any node before this, or to the beginning."""
+        """To the last breakpoint of any node before this, or before the last write of what is watched, or to the
+        beginning."""
         self.unseen = None
         start = self.at
-        like = rows_like(None, self.points)
-        for node, row in self.interruptible(self.history.hits_back(min(start.cycle + 1, self.history.limit), like)):
+        self.watches.go()
+        for first, end in self.spans_back(min(start.cycle + 1, self.history.limit)):
+            write = self.last_write(first // EPOCH, start)
+            row = self.last_hit(start, (write.first if write else first, end))
+            if isinstance(row, Stop):
+                return row
+            if write and (row is None or Place(write.first, write.node) > self.at):
+                self.at = Place(write.first, write.node)
+                return self.watch_stop(write)
+            if row:
+                return self.hit(row)
+        return self.at_beginning()
+
+    def last_hit(self, start: Place, span: tuple[int, int]) -> Traced | Stop | None:
+        """The last breakpoint in a span before this, where it then stands; Stop where gdb asks to stop before."""
+        for node, row in self.interruptible(self.hits_back_in(span)):
             if node is None or row is None:
                 return Stop(INTERRUPTED)
             if Place(row.cycle, node) < start:
                 self.at = Place(row.cycle, node)
-                return self.hit(row)
-        return self.at_beginning()
+                return row
+        return None
+
+    def last_write(self, epoch: int, start: Place) -> Write | None:
+        """The last write of what is watched in an epoch that is before this."""
+        for write in reversed(self.watches.writes(epoch)):
+            if Place(write.first, write.node) < start:
+                return write
+        return None
 
     def interruptible(self, found: Iterator[tuple[int, Traced]]) -> Iterator[tuple[int, Traced] | tuple[None, None]]:
         """What is found; None where gdb asks to stop before it is."""
@@ -371,6 +476,12 @@ class Session:
     def at_beginning(self) -> Stop:
         self.at = Place(self.history.first, self.at.node)
         return Stop(more="replaylog:begin;")
+
+
+def range_of(packet: bytes) -> Range:
+    """The bytes that a packet Z2 or z2 names."""
+    address, length = (int(part, 16) for part in packet.split(b";")[0].split(b",")[1:3])
+    return Range(address - target.DATA_SPACE, length)
 
 
 def part_of(text: bytes, packet: bytes) -> bytes:

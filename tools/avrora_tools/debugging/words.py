@@ -23,6 +23,7 @@ air                   what is on the air now, and from when until when each node
 console [NODE]        what a node has written to USART0 up to now
 bookmark NAME         call this place so; goto NAME comes back
 interrupts show|skip  steps go into interrupts, or over them (at first)
+watches               the bytes that are watched, and of which node each: that which gdb showed when it was set
 Behind goto, next and last gdb still shows the registers of before until `maintenance flush register-cache`;
 examples/avrora.gdb has these words as commands of gdb that see to it."""
 
@@ -56,6 +57,7 @@ class Words:
             "console": self.console,
             "bookmark": self.bookmark,
             "interrupts": self.interrupts,
+            "watches": lambda _: "\n".join(self.session.watches.lines()) or "nothing is watched",
         }
 
     def answer(self, text: str) -> str:

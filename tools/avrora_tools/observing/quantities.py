@@ -15,6 +15,7 @@ from avrora_tools.observing.places import REGISTERS, SP_LOW, SREG, Kind, Place
 from avrora_tools.programs import Program
 from avrora_tools.states import IO_NAMES
 from avrora_tools.variables import (
+    OP_ADDR,
     UNSIGNED,
     UNSIGNED_CHAR,
     Array,
@@ -306,5 +307,7 @@ def why_of(entry: Any, name: str, first: str) -> str | None:
     location = entry.attributes.get("DW_AT_location")
     if location is None:
         return "was optimised away: it has no place in memory"
+    if isinstance(location.value, list) and location.value[:1] == [OP_ADDR]:
+        return "is a register whose value a device makes up, and no byte that is kept: `inspect --at` shows it"
     what = "parameter" if entry.tag == "DW_TAG_formal_parameter" else "local variable"
     return f"is a {what} that lies in registers or on the stack: declare it `static` to watch it"

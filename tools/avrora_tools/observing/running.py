@@ -103,16 +103,16 @@ class Observed:
     def places(self) -> list[Place]:
         return [place for node, found in self.quantities.items() for one in found for place in one.places(node)]
 
-    def held_in(self, state: State) -> dict[tuple[int, int], bytearray]:
+    def held_in(self, state: State) -> dict[tuple[int, int], bytes]:
         """The bytes of each quantity in a state."""
         return {
-            (node, number): bytearray(read(state.nodes[node], one.address, one.size))
+            (node, number): read(state.nodes[node], one.address, one.size)
             for node, found in self.quantities.items()
             for number, one in enumerate(found)
         }
 
     def values(self, first: int) -> dict[tuple[int, int], bytes]:
-        return {key: bytes(held) for key, held in self.held_in(self.run.looked(first)).items()}
+        return self.held_in(self.run.looked(first))
 
     def moments(self, first: int, end: int) -> Iterator[Moment]:
         """Each new value from a cycle on and before another. A value may be half written at either: so a few cycles

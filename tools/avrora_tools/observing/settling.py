@@ -28,20 +28,26 @@ class Moment(NamedTuple):
 Key = tuple[int, int]  # a node, and the number of a quantity of it
 
 
+class Byte(NamedTuple):
+    """A byte of a quantity that changed: when, which, and its new value."""
+
+    cycle: int
+    offset: int
+    value: int
+
+
 @dataclass
 class Settler:
     """Turns changes of bytes into new values, in order of cycle."""
 
     quantities: Mapping[int, Sequence[Quantity]]  # by node
-    held: dict[Key, bytearray]  # as the first cycle begins
+    known: dict[Key, bytes]  # as the first cycle begins
     torn: bool = False
-    known: dict[Key, bytes] = field(init=False)
-    waiting: dict[Key, tuple[int, set[int]]] = field(init=False, default_factory=dict)  # since when, and which bytes
+    waiting: dict[Key, list[Byte]] = field(init=False, default_factory=dict)  # of values that may be half written
     ready: list[tuple[int, int, Moment]] = field(init=False, default_factory=list)
     count: int = field(init=False, default=0)
 
     def __post_init__(self) -> None:
-        self.known = {key: bytes(held) for key, held in self.held.items()}
         self.users: dict[Place, list[tuple[Key, int]]] = {}
         for node, found in self.quantities.items():
             for number, one in enumerate(found):
@@ -53,34 +59,45 @@ class Settler:
             yield from self.due(change.cycle)
             if change.place.kind is Kind.BYTE and change.byte is not None:
                 for key, offset in self.users.get(change.place, ()):
-                    self.write(change.cycle, key, offset, change.byte)
+                    self.write(key, Byte(change.cycle, offset, change.byte))
         yield from self.due(None)
 
-    def write(self, cycle: int, key: Key, offset: int, byte: int) -> None:
-        since = self.waiting.get(key)
-        if since and offset in since[1]:
-            self.settle(key)  # the same byte once more: what stood before was whole
-            since = None
-        self.held[key][offset] = byte
-        self.waiting[key] = (cycle, (since[1] if since else set()) | {offset})
-        if self.torn or len(self.held[key]) == 1:
-            self.settle(key)
+    def write(self, key: Key, byte: Byte) -> None:
+        waiting = self.waiting.setdefault(key, [])
+        waiting.append(byte)
+        if self.torn or len(self.known[key]) == 1:
+            self.settle(key, 1)
+        elif any(one.offset == byte.offset for one in waiting[:-1]):
+            self.settle(key, widest_gap(waiting))  # the same byte once more: what stood before was whole
 
-    def settle(self, key: Key) -> None:
-        """Makes what a quantity holds its value, from when its last byte came on."""
-        cycle, _ = self.waiting.pop(key)
-        held, before = bytes(self.held[key]), self.known[key]
+    def settle(self, key: Key, count: int) -> None:
+        """Makes the first bytes that wait, so many, a new value."""
+        waiting = self.waiting[key]
+        before, held = self.known[key], bytearray(self.known[key])
+        for byte in waiting[:count]:
+            held[byte.offset] = byte.value
+        cycle = waiting[count - 1].cycle
+        del waiting[:count]
+        if not waiting:
+            del self.waiting[key]
         quantity = self.quantities[key[0]][key[1]]
-        self.known[key] = held
-        if quantity.data(held) != quantity.data(before):
-            bisect.insort(self.ready, (cycle, self.count, Moment(cycle, key[0], quantity, held, before)))
+        self.known[key] = bytes(held)
+        if quantity.data(bytes(held)) != quantity.data(before):
+            bisect.insort(self.ready, (cycle, self.count, Moment(cycle, key[0], quantity, bytes(held), before)))
             self.count += 1
 
     def due(self, cycle: int | None) -> Iterator[Moment]:
         """What is known by a cycle; all where there is none any more."""
-        for key in [key for key, (since, _) in self.waiting.items() if cycle is None or since + SETTLING < cycle]:
-            self.settle(key)
+        for key, waiting in list(self.waiting.items()):
+            if cycle is None or waiting[-1].cycle + SETTLING < cycle:
+                self.settle(key, len(waiting))
         # nothing that waits can come before what is given out
-        least = None if cycle is None else min([cycle, *(since for since, _ in self.waiting.values())])
+        least = None if cycle is None else min([cycle, *(waiting[0].cycle for waiting in self.waiting.values())])
         while self.ready and (least is None or self.ready[0][0] < least):
             yield self.ready.pop(0)[2]
+
+
+def widest_gap(bytes_: Sequence[Byte]) -> int:
+    """Where one value ends and the next begins: before the widest gap, the last of several; how many bytes lie before
+    it."""
+    return max(range(1, len(bytes_)), key=lambda place: (bytes_[place].cycle - bytes_[place - 1].cycle, place))
