@@ -204,6 +204,18 @@ def test_an_image_named_to_move_a_cursor():
         assert rb"\x1B[2J\u202E\x0D.hex" in content and b"\x1b[" not in content
 
 
+def test_times_that_a_packet_cannot_have():
+    text = data("packet.toml").replace("cycles = 737_280", "cycles = 1_099_511_627_776")
+    rows = "1099511627000 0 sent AA\n" + "".join(f"1099511627776 {node} end 9 running\n" for node in range(3))
+    with scratch("net.toml", text) as scenario, scratch("net.trace", rows) as trace, scratch("a.pcapng") as path:
+        words = ("pcapng", "--bytes", "-s", scenario, "-o", path, trace)
+        assert "--hz 1: a packet of pcapng has no time as late as cycle 1,099,511,627,776" in exported(
+            *words, "--hz", "1", status=2
+        )
+        exported(*words, "--hz", "120")
+        exported(*words)
+
+
 @pyelftools
 def test_lcov_has_what_ran():
     text = exported("lcov", *RELAY)

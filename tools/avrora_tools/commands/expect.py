@@ -100,8 +100,13 @@ def checked(case: Case, arguments: argparse.Namespace, avrora: str | None) -> tu
     return outcome, time.monotonic() - start
 
 
+def tap_name(name: str) -> str:
+    """A name in a line of TAP, where a # begins a directive: one of TODO or SKIP would excuse a failure."""
+    return name.replace("#", r"\x23")
+
+
 def tell(number: int, result: Result) -> None:
-    name, outcome = files.shown(result.case.path), result.outcome
+    name, outcome = tap_name(files.shown(result.case.path)), result.outcome
     if not outcome.failure:
         print(f"ok {number} - {name} # {outcome.rows} rows, {outcome.expectations} expectations", flush=True)
         return
