@@ -347,7 +347,7 @@ class Unit:
         return None if found is None else found.attributes[name].value
 
     def holder(self, entry: Any, name: str) -> Any:
-        """The entry that has an attribute: this one, or one that it stands for. None where none has it, or they go round."""
+        """The entry that has an attribute: this one, or one that it stands for; None where none has it."""
         seen: set[int] = set()
         while entry is not None and name not in entry.attributes:
             if entry.offset in seen:
@@ -458,9 +458,8 @@ class Unit:
             return Member(name, at, type_, int(bits), int(from_lowest) - 8 * at)
         # DWARF 2 counts bits from the highest of the storage unit; below 0 where they go on behind it.
         size = int(self.attribute(entry, "DW_AT_byte_size") or type_.size)
-        return Member(
-            name, at, type_, int(bits), 8 * size - elf_files.signed_value(entry.attributes["DW_AT_bit_offset"]) - int(bits)
-        )
+        from_highest = elf_files.signed_value(entry.attributes["DW_AT_bit_offset"])
+        return Member(name, at, type_, int(bits), 8 * size - from_highest - int(bits))
 
 
 def text_in(name: bytes) -> str:

@@ -68,7 +68,8 @@ def test_the_program_as_it_is(tmp_path):
 
 def test_arrays_of_what_has_no_size(tmp_path):
     """Empty structures, as GNU C has them."""
-    source = "struct empty {} none[3], one; int zero[0]; struct { char n; struct empty e[2]; } both; int main(void) {}\n"
+    source = "struct empty {} none[3], one; int zero[0]; struct { char n; struct empty e[2]; } both;"
+    source += " int main(void) {}\n"
     out, err = read(compiled(tmp_path, source))
     told = {"none empty[3] {{} x 3}", "one empty {}", "zero int[0] {}", "both struct {n 0, e {{} x 2}}"}
     assert err == "" and set(out.splitlines()) == told

@@ -183,7 +183,7 @@ def test_folded_and_speedscope_have_the_same_cycles():
 
 @pyelftools
 def test_names_that_would_mean_something():
-    """In callgrind's format a number in brackets stands for another name, in a folded stack a ; for the next function."""
+    """In callgrind's format a number in brackets stands for another name, in a folded stack a ; begins the next."""
     with open(ELF, "rb") as file:
         content = file.read().replace(b"__vector_15\0", b"(7);ab;wxyz\0").replace(b"relay.c\0", b"(2)ay.c\0")
     with scratch("relay.elf", content) as path:
