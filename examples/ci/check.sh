@@ -150,7 +150,7 @@ limited() {
     else
         status=$?
     fi
-    cat -v .check.sh | sed 's/^/| /' >&2
+    cat -v .check.sh | sed -e 's/##/#-#/g' -e 's/^/| /' >&2
     : >.check.sh
     case $status in
         0) ;;

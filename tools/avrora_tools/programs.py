@@ -2,13 +2,12 @@
 in a trace."""
 import argparse
 import bisect
-import io
 import os
 import re
 from collections.abc import Iterator, Sequence
 from typing import Any, NamedTuple
 
-from avrora_tools import cli, files, images, instructions, terminal
+from avrora_tools import cli, elf_files, files, images, instructions, terminal
 from avrora_tools.errors import BadInput
 from avrora_tools.events import Event, Instr
 from avrora_tools.scenarios import Scenario
@@ -61,15 +60,9 @@ class Program:
 
     def __init__(self, path: str) -> None:
         """Reads the ELF file `path`. Raises BadInput where it is none, or none for the AVR."""
-        try:
-            from elftools.elf.elffile import ELFFile
-        except ImportError:
-            raise terminal.missing("pyelftools", "python3-pyelftools") from None
         self.path = path
         self.name = files.shown(path)
-        content = files.read_bytes(path)
-        try:
-            elf = ELFFile(io.BytesIO(content))
+        with elf_files.opened(path) as elf:
             if elf["e_machine"] != "EM_AVR":
                 raise BadInput(f"{self.name}: an ELF file for {elf['e_machine']}, and not for the AVR")
             self.flash = flash_of(elf)
@@ -77,10 +70,6 @@ class Program:
             self.places = line_places(elf)
             self.lines = [(word, f"{os.path.basename(at.path)}:{at.line}" if at else None) for word, at in self.places]
             has_stabs = elf.get_section_by_name(".stab") is not None
-        except BadInput:
-            raise
-        except Exception as fault:  # whatever a broken file leads the library to
-            raise BadInput(f"{self.name}: no ELF file: {files.printable(str(fault)) or type(fault).__name__}") from None
         if has_stabs and not self.lines:
             terminal.warn(f"{self.name}: its source lines are in the form STABS; compile with -gdwarf-2 to see them")
         self.firsts = [function.first for function in self.functions]

@@ -12,6 +12,9 @@ import re
 # The name that stands for the standard input, or the standard output.
 STANDARD_STREAM = "-"
 
+# Begins a command to some services that run pipelines (GitHub's, Azure's), wherever it stands in a line of their logs.
+COMMAND = re.compile(r"##(?=\[|vso\[)", re.IGNORECASE)
+
 # The surrogates that stand for bytes from 0x80 on, in texts that were decoded from bytes that are no UTF-8.
 BYTES = range(0xDC80, 0xDD00)
 
@@ -24,10 +27,10 @@ def shown(name: str) -> str:
 def printable(text: str) -> str:
     """A text on one line, for a terminal or a log. What is no letter, mark, digit, sign or plain space is told by its
     number: controls, line breaks, marks of direction, characters that do not show, bytes that are no UTF-8
-    (`\\xff`)."""
+    (`\\xff`); and so is the second sign of what begins a command to who reads the log, such as `##[`."""
     if not text.isprintable():
         text = "".join(character if character.isprintable() else escaped(character) for character in decoded(text))
-    return text
+    return COMMAND.sub(r"#\\x23", text) if "##" in text else text
 
 
 def printable_lines(text: str) -> str:

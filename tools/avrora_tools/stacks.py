@@ -3,11 +3,10 @@ from collections.abc import Iterator, Sequence
 from dataclasses import dataclass
 from typing import Any
 
-from avrora_tools import files
-from avrora_tools.errors import BadInput
+from avrora_tools import elf_files
 from avrora_tools.programs import HANDLERS, Program
 from avrora_tools.states import DATA_END, SRAM_FIRST, Node
-from avrora_tools.variables import DATA_SPACE, reader
+from avrora_tools.variables import DATA_SPACE
 
 MOST_FRAMES = (DATA_END - SRAM_FIRST) // 2  # more there is no room for
 
@@ -156,14 +155,10 @@ def byte_at(node: Node, address: int | None, else_: int) -> int:
 
 def frame_rules(path: str) -> list[FrameRule]:
     """The frame rules of an ELF file, by their words; none where it has none."""
-    with files.opened(path) as file:
-        try:
-            elf = reader()(file)
-            dwarf = elf.get_dwarf_info() if elf.has_dwarf_info() else None
-            entries = dwarf.CFI_entries() if dwarf and dwarf.has_CFI() else []
-            found = [rule for entry in entries if hasattr(entry, "cie") for rule in rules_of(entry)]
-        except Exception as fault:  # whatever a broken file leads the library to
-            raise BadInput(f"{files.shown(path)}: no ELF file: {files.printable(str(fault)) or type(fault).__name__}") from None
+    with elf_files.opened(path) as elf:
+        dwarf = elf.get_dwarf_info() if elf.has_dwarf_info() else None
+        entries = dwarf.CFI_entries() if dwarf and dwarf.has_CFI() else []
+        found = [rule for entry in entries if hasattr(entry, "cie") for rule in rules_of(entry)]
     return sorted(found, key=lambda rule: rule.first)
 
 
@@ -182,12 +177,9 @@ def rules_of(entry: Any) -> Iterator[FrameRule]:
 
 def data_end(path: str) -> int | None:
     """The address behind the variables of a program, where its stack must not reach."""
-    with files.opened(path) as file:
-        try:
-            table = reader()(file).get_section_by_name(".symtab")
-            ends = [symbol["st_value"] for symbol in (table.iter_symbols() if table else ()) if symbol.name == "_end"]
-        except Exception as fault:  # whatever a broken file leads the library to
-            raise BadInput(f"{files.shown(path)}: no ELF file: {files.printable(str(fault)) or type(fault).__name__}") from None
+    with elf_files.opened(path) as elf:
+        table = elf.get_section_by_name(".symtab")
+        ends = [symbol["st_value"] for symbol in (table.iter_symbols() if table else ()) if symbol.name == "_end"]
     return ends[0] - DATA_SPACE if ends and SRAM_FIRST <= ends[0] - DATA_SPACE <= DATA_END else None
 
 

@@ -5,10 +5,9 @@ from collections.abc import Callable, Iterator, Sequence
 from dataclasses import dataclass
 from typing import Any, Protocol
 
-from avrora_tools import files
+from avrora_tools import elf_files, files
 from avrora_tools.errors import BadInput
 from avrora_tools.states import DATA_END, SRAM_FIRST
-from avrora_tools.terminal import missing
 
 DATA_SPACE = 0x800000  # where avr-gcc's ELF files put the data space
 
@@ -25,6 +24,9 @@ QUALIFIERS = ("DW_TAG_const_type", "DW_TAG_volatile_type")
 
 MOST_ELEMENTS = 24  # of an array that are shown, runs of one value taken together
 MOST_DEPTH = 8
+
+# More values than a variable of the data space has, in unions too; of a type that has more, the bytes are shown.
+MOST_VALUES, MOST_DIMENSIONS = 65_536, 32
 
 
 class Memory(Protocol):
@@ -146,6 +148,7 @@ class Pointer:
 class Array:
     element: Type
     count: int
+    values: int = 1  # that are no arrays and structures
 
     @property
     def name(self) -> str:
@@ -166,6 +169,8 @@ class Array:
         if depth >= MOST_DEPTH:
             return "{..}"
         long = self.element.size
+        if not long:
+            return f"{{{self.element.shown(b'', memory, depth + 1)} x {self.count}}}" if self.count else "{}"
         parts = [self.element.shown(data[i : i + long], memory, depth + 1) for i in range(0, len(data), long)]
         return "{" + ", ".join(taken_together(parts)) + "}"
 
@@ -209,6 +214,7 @@ class Structure:
     name: str
     size: int
     members: tuple[Member, ...]
+    values: int = 1  # that are no arrays and structures
 
     def shown(self, data: bytes, memory: Memory, depth: int = 0) -> str:
         if depth >= MOST_DEPTH:
@@ -265,6 +271,21 @@ def number_of(type_: Type, data: bytes) -> int | float:
     return number
 
 
+def values_in(type_: Type) -> int:
+    """How many numbers, pointers and the like a value of a type shows."""
+    while isinstance(type_, Renamed):
+        type_ = type_.type
+    return type_.values if isinstance(type_, (Array, Structure)) else 1
+
+
+def dimensions(type_: Type) -> int:
+    """How many arrays are in one another."""
+    count = 0
+    while isinstance(type_, (Array, Renamed)):
+        count, type_ = count + isinstance(type_, Array), type_.element if isinstance(type_, Array) else type_.type
+    return count
+
+
 @dataclass(frozen=True)
 class Opaque:
     """A type of which nothing is known but its size: its bytes."""
@@ -307,37 +328,23 @@ def place_in(type_: Type, offset: int) -> str:
 
 def variables_of(path: str) -> list[Variable]:
     """The variables of the ELF file `path`, by their addresses. Raises BadInput where it has no DWARF."""
-    with files.opened(path) as file:
-        try:
-            elf = reader()(file)
-            if not elf.has_dwarf_info():
-                raise BadInput(f"{files.shown(path)}: it says nothing of variables; compile with -gdwarf-2")
-            found = {
-                (one.address, one.name): one
-                for unit in elf.get_dwarf_info().iter_CUs()
-                for one in Unit(unit).variables()
-            }
-        except BadInput:
-            raise
-        except Exception as fault:  # whatever a broken file leads the library to
-            raise BadInput(f"{files.shown(path)}: no ELF file: {files.printable(str(fault)) or type(fault).__name__}") from None
-    return [one for _, one in sorted(found.items())]
-
-
-def reader() -> Any:
-    """What reads ELF files. Raises CannotWork where pyelftools is missing."""
-    try:
-        from elftools.elf.elffile import ELFFile
-    except ImportError:
-        raise missing("pyelftools", "python3-pyelftools") from None
-    return ELFFile
+    with elf_files.opened(path) as elf:
+        if not elf.has_dwarf_info():
+            raise BadInput(f"{files.shown(path)}: it says nothing of variables; compile with -gdwarf-2")
+        dwarf = elf.get_dwarf_info()
+        places = elf_files.entry_places(dwarf)
+        found = {
+            (one.address, one.name): one for unit in dwarf.iter_CUs() for one in Unit(unit, places).variables()
+        }
+    return [one for _, one in sorted(found.items(), key=lambda item: item[0])]
 
 
 class Unit:
     """The variables and types of a compilation unit."""
 
-    def __init__(self, unit: Any) -> None:
-        self.unit = unit
+    def __init__(self, unit: Any, places: frozenset[int]) -> None:
+        """`places` are where the file's entries begin."""
+        self.unit, self.places = unit, places
         self.types: dict[int, Type] = {}
 
     def variables(self) -> Iterator[Variable]:
@@ -358,7 +365,7 @@ class Unit:
         return None if found is None else found.attributes[name].value
 
     def holder(self, entry: Any, name: str) -> Any:
-        """The entry that has an attribute: this one, or one that it stands for. None where none has it, or they go round."""
+        """The entry that has an attribute: this one, or one that it stands for; None where none has it."""
         seen: set[int] = set()
         while entry is not None and name not in entry.attributes:
             if entry.offset in seen:
@@ -370,21 +377,31 @@ class Unit:
     def origin(self, entry: Any) -> Any:
         for name in ("DW_AT_abstract_origin", "DW_AT_specification"):
             if name in entry.attributes:
-                return entry.get_DIE_from_attribute(name)
+                return self.referred(entry, name)
         return None
+
+    def referred(self, entry: Any, name: str = "DW_AT_type") -> Any:
+        """The entry that an attribute refers to. Raises ValueError where none begins there."""
+        found = entry.get_DIE_from_attribute(name)
+        if found.offset not in self.places:
+            raise ValueError("debugging information refers to what is no entry")
+        return found
 
     def type_of(self, entry: Any) -> Type:
         """The type that an entry has."""
         entry = self.holder(entry, "DW_AT_type")
         if entry is None:
             return Opaque("void", 0)
-        return self.type(entry.get_DIE_from_attribute("DW_AT_type"))
+        return self.type(self.referred(entry))
 
     def type(self, entry: Any) -> Type:
         known = self.types.get(entry.offset)
         if known is None:
             self.types[entry.offset] = Opaque("..", 0)  # of one that has itself as a part, which C forbids
-            known = self.types[entry.offset] = self.made(entry)
+            made = self.made(entry)
+            if values_in(made) > MOST_VALUES or dimensions(made) > MOST_DIMENSIONS:
+                made = Opaque(text_in(self.attribute(entry, "DW_AT_name") or b"?"), made.size)
+            known = self.types[entry.offset] = made
         return known
 
     def made(self, entry: Any) -> Type:
@@ -413,17 +430,29 @@ class Unit:
     def pointer(self, entry: Any) -> Pointer:
         if "DW_AT_type" not in entry.attributes:
             return Pointer("void *", False)
-        target = entry.get_DIE_from_attribute("DW_AT_type")
+        target = self.referred(entry)
         is_code = target.tag == "DW_TAG_subroutine_type"
         # A structure may have a pointer to itself, so only the name of the target is looked at.
-        name = "function" if is_code else text_in(self.attribute(named(target), "DW_AT_name") or b"..")
+        aim = self.named(target)
+        no_name = b"void" if aim.tag in QUALIFIERS else b".."
+        name = "function" if is_code else text_in(self.attribute(aim, "DW_AT_name") or no_name)
         return Pointer(f"{name} *", is_code)
+
+    def named(self, entry: Any) -> Any:
+        """The entry behind qualifiers, or one of them where they go round."""
+        seen: set[int] = set()
+        while entry.tag in QUALIFIERS and "DW_AT_type" in entry.attributes and entry.offset not in seen:
+            seen.add(entry.offset)
+            entry = self.referred(entry)
+        return entry
 
     def array(self, entry: Any) -> Type:
         counts = [self.count(child) for child in entry.iter_children() if child.tag == "DW_TAG_subrange_type"]
         found = self.type_of(entry)
+        if len(counts) > MOST_DIMENSIONS:
+            return Opaque("?", found.size * math.prod(counts))
         for count in reversed(counts):
-            found = Array(found, count)
+            found = Array(found, count, count * values_in(found))
         return found
 
     def count(self, entry: Any) -> int:
@@ -433,40 +462,22 @@ class Unit:
         return int(bound) + 1 if isinstance(bound, int) else 0
 
     def structure(self, entry: Any, name: str, size: int) -> Structure:
-        return Structure(
-            name, size, tuple(self.member(one) for one in entry.iter_children() if one.tag == "DW_TAG_member")
-        )
+        members = tuple(self.member(one) for one in entry.iter_children() if one.tag == "DW_TAG_member")
+        return Structure(name, size, members, sum(values_in(one.type) for one in members))
 
     def member(self, entry: Any) -> Member:
         type_ = self.type_of(entry)
         name = text_in(self.attribute(entry, "DW_AT_name") or b"(unnamed)")
         bits = self.attribute(entry, "DW_AT_bit_size")
         if bits is None:
-            return Member(name, member_offset(entry), type_)
-        at = member_offset(entry)
+            return Member(name, elf_files.member_offset(entry), type_)
+        at = elf_files.member_offset(entry)
         if (from_lowest := self.attribute(entry, "DW_AT_data_bit_offset")) is not None:
             return Member(name, at, type_, int(bits), int(from_lowest) - 8 * at)
         # DWARF 2 counts bits from the highest of the storage unit; below 0 where they go on behind it.
         size = int(self.attribute(entry, "DW_AT_byte_size") or type_.size)
-        return Member(
-            name, at, type_, int(bits), 8 * size - signed_value(entry.attributes["DW_AT_bit_offset"]) - int(bits)
-        )
-
-
-def signed_value(attribute: Any) -> int:
-    """A number of DWARF that may be below 0, also in a form of so many bytes."""
-    bits = {"DW_FORM_data1": 8, "DW_FORM_data2": 16, "DW_FORM_data4": 32, "DW_FORM_data8": 64}.get(attribute.form)
-    value = int(attribute.value)
-    return value - (1 << bits) if bits and value >> bits - 1 else value
-
-
-def named(entry: Any) -> Any:
-    """The entry behind qualifiers, or one of them where they go round."""
-    seen: set[int] = set()
-    while entry.tag in QUALIFIERS and "DW_AT_type" in entry.attributes and entry.offset not in seen:
-        seen.add(entry.offset)
-        entry = entry.get_DIE_from_attribute("DW_AT_type")
-    return entry
+        from_highest = elf_files.signed_value(entry.attributes["DW_AT_bit_offset"])
+        return Member(name, at, type_, int(bits), 8 * size - from_highest - int(bits))
 
 
 def text_in(name: bytes) -> str:
@@ -488,17 +499,3 @@ def enumerators(entry: Any) -> Iterator[tuple[int, str]]:
     for child in entry.iter_children():
         if child.tag == "DW_TAG_enumerator":
             yield int(child.attributes["DW_AT_const_value"].value), text_in(child.attributes["DW_AT_name"].value)
-
-
-def member_offset(entry: Any) -> int:
-    """How far a member lies behind the begin of its structure: a number, or DWARF 2's operation that adds one."""
-    location = entry.attributes.get("DW_AT_data_member_location")
-    if location is None:
-        return 0
-    if isinstance(location.value, int):
-        return location.value
-    value = shift = 0
-    for byte in location.value[1:]:  # behind DW_OP_plus_uconst stands a number in LEB128
-        value |= (byte & 0x7F) << shift
-        shift += 7
-    return value

@@ -15,10 +15,11 @@ LEAST = 90
 # Python imports this first in each process: the tools end by os._exit, at which nothing else would be kept.
 SITE = """
 import os
-import coverage
+try:
+    import coverage
+except ImportError:  # of another Python, which a test starts
+    coverage = None
 
-os.environ.setdefault("COVERAGE_PROCESS_START", {config!r})
-coverage.process_startup()
 leave = os._exit
 
 
@@ -30,7 +31,10 @@ def keep_and_leave(status):
     leave(status)
 
 
-os._exit = keep_and_leave
+if coverage:
+    os.environ.setdefault("COVERAGE_PROCESS_START", {config!r})
+    coverage.process_startup()
+    os._exit = keep_and_leave
 """
 
 CONFIG = """[run]
@@ -60,4 +64,6 @@ def main() -> int:
 
 
 if __name__ == "__main__":
+    if sys.argv[1:2] in (["--help"], ["-h"]):
+        sys.exit(print(__doc__))
     sys.exit(main())

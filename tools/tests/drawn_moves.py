@@ -158,5 +158,7 @@ def main() -> int:
 
 
 if __name__ == "__main__":
+    if sys.argv[1:2] in (["--help"], ["-h"]):
+        sys.exit(print(__doc__))
     os.environ.setdefault("LC_ALL", "C")
     sys.exit(main())

@@ -193,5 +193,7 @@ def fuzz(count, seed, first):
 
 
 if __name__ == "__main__":
+    if sys.argv[1:2] in (["--help"], ["-h"]):
+        sys.exit(print(__doc__))
     numbers = [int(word.replace("_", "").replace(",", "")) for word in sys.argv[1:]]
     sys.exit(fuzz(*(numbers + [COUNT, SEED, FIRST][len(numbers) :])))

@@ -222,5 +222,7 @@ def main(count: int, seed: int) -> int:
 
 
 if __name__ == "__main__":
+    if sys.argv[1:2] in (["--help"], ["-h"]):
+        sys.exit(print(__doc__))
     numbers = [int(word) for word in sys.argv[1:]]
     sys.exit(main(*(numbers + [len(MUTANTS), 1][len(numbers) :])))

@@ -325,4 +325,6 @@ def main():
 
 
 if __name__ == "__main__":
+    if sys.argv[1:2] in (["--help"], ["-h"]):
+        sys.exit(print(__doc__))
     sys.exit(main())

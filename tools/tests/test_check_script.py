@@ -201,8 +201,10 @@ def test_precompiled_headers(place):
 
 def test_what_a_compiler_says(place):
     """A line of a log begins with no command to who reads it."""
-    (place / "mine" / "good.c").write_bytes(b"::set-output name=x::y\n\x1b[31m\n#error \x1b[2J::add-mask::x\n")
+    source = b"::set-output name=x::y\n\x1b[31m\n#error \x1b[2J::add-mask::x ##[x] ##vso[y]\n"
+    (place / "mine" / "good.c").write_bytes(source)
     status, out, err = check(place)
+    assert "#-#[x] #-#vso[y]" in err and "##" not in err
     assert (status, out) == (1, "") and "\x1b" not in err and all(line.startswith("| ") for line in err.splitlines())
 
 

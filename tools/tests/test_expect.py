@@ -713,6 +713,15 @@ class Command(unittest.TestCase):
             status, out, _ = run_tool("expect", "--trace", f"{DATA}/{name}.trace", f"{TOP}/examples/{name}.expect")
             self.assertEqual((status, out.splitlines()[2][:4]), (0, "ok 1"))
 
+    def test_a_name_that_would_excuse_a_failure(self):
+        """`not ok 1 - a # TODO` is no failure to who reads TAP."""
+        for name in ("a # TODO.expect", "a #skip.expect", "a \\# TODO.expect"):
+            with scratch(name, "text 4 'yes'\n") as case:
+                status, out, _ = run_tool("expect", "--trace", f"{DATA}/relay.trace", case)
+            self.assertEqual(status, 1)
+            self.assertTrue(out.splitlines()[2].endswith(name.replace("#", r"\x23")), out)
+            self.assertNotIn("#", out.splitlines()[2])
+
     def test_jobs(self):
         """The reports come in the order of the cases."""
         with scratch("a.expect", "text 4 'relay'\n") as good, scratch("b.expect", "text 4 'yes'\n") as bad:

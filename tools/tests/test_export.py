@@ -183,7 +183,7 @@ def test_folded_and_speedscope_have_the_same_cycles():
 
 @pyelftools
 def test_names_that_would_mean_something():
-    """In callgrind's format a number in brackets stands for another name, in a folded stack a ; for the next function."""
+    """In callgrind's format a number in brackets stands for another name, in a folded stack a ; begins the next."""
     with open(ELF, "rb") as file:
         content = file.read().replace(b"__vector_15\0", b"(7);ab;wxyz\0").replace(b"relay.c\0", b"(2)ay.c\0")
     with scratch("relay.elf", content) as path:
@@ -202,6 +202,18 @@ def test_an_image_named_to_move_a_cursor():
         with open(path, "rb") as file:
             content = file.read()
         assert rb"\x1B[2J\u202E\x0D.hex" in content and b"\x1b[" not in content
+
+
+def test_times_that_a_packet_cannot_have():
+    text = data("packet.toml").replace("cycles = 737_280", "cycles = 1_099_511_627_776")
+    rows = "1099511627000 0 sent AA\n" + "".join(f"1099511627776 {node} end 9 running\n" for node in range(3))
+    with scratch("net.toml", text) as scenario, scratch("net.trace", rows) as trace, scratch("a.pcapng") as path:
+        words = ("pcapng", "--bytes", "-s", scenario, "-o", path, trace)
+        assert "--hz 1: a packet of pcapng has no time as late as cycle 1,099,511,627,776" in exported(
+            *words, "--hz", "1", status=2
+        )
+        exported(*words, "--hz", "120")
+        exported(*words)
 
 
 @pyelftools

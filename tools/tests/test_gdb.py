@@ -306,8 +306,8 @@ def test_nothing_can_be_written(folder):
     assert "$1 = 3" in said
 
 
-NO_PACKETS = """m m0 mzz,4 m-5,5 m800000,-1 m0,11111111111111111 p pzz Z0 Z0, Z0,zz,2 z1,5 Hgzz Tx T vCont vCont; vCont;q
-vCont;s:zz vCont;r5:1 qThreadExtraInfo, qThreadExtraInfo,zz qRcmd,zz qRcmd,6 qXfer:threads:read::
+NO_PACKETS = """m m0 mzz,4 m-5,5 m800000,-1 m0,11111111111111111 p pzz Z0 Z0, Z0,zz,2 z1,5 Hgzz Tx T vCont vCont;
+vCont;q vCont;s:zz vCont;r5:1 qThreadExtraInfo, qThreadExtraInfo,zz qRcmd,zz qRcmd,6 qXfer:threads:read::
 qXfer:threads:read::x,y qXfer:memory-map:read::0""".split()
 
 

@@ -69,6 +69,13 @@ def test_examples(text, wanted):
     assert showing.printable(text) == wanted
 
 
+@pytest.mark.parametrize("text", ["##[set-output name=a;]b", "a ##vso[task.complete]b", "###[error]", "##[##vso["])
+def test_commands_to_who_reads_a_log(text):
+    said = showing.printable(text)
+    assert "##[" not in said and "##vso[" not in said and said.replace(r"\x23", "#") == text
+    assert showing.printable("a ## b ##error #[") == "a ## b ##error #["
+
+
 def test_each_character_on_a_line():
     for character in EVERY:
         shown = showing.printable(character)

@@ -105,4 +105,6 @@ def main(rows):
 
 
 if __name__ == "__main__":
+    if sys.argv[1:2] in (["--help"], ["-h"]):
+        sys.exit(print(__doc__))
     main(int(sys.argv[1].replace("_", "").replace(",", "")) if sys.argv[1:] else 1_000_000)

@@ -48,7 +48,8 @@ def configure(parser: argparse.ArgumentParser) -> None:
     parser.add_argument("--junit", metavar="FILE", help="write a report in JUnit's XML too (needs python3-junit.xml)")
     parser.add_argument("--save", action="store_true", help="write the golden traces anew")
     parser.add_argument("--jobs", type=cli.positive, default=1, metavar="N", help="cases at once (%(default)s)")
-    parser.add_argument("--timeout", type=cli.positive, metavar="SECONDS", help="that a case may take: its run, and its check")
+    timeout = "that a case may take: its run, and its check"
+    parser.add_argument("--timeout", type=cli.positive, metavar="SECONDS", help=timeout)
     parser.add_argument("case", nargs="+", metavar="CASE")
 
 
@@ -100,8 +101,13 @@ def checked(case: Case, arguments: argparse.Namespace, avrora: str | None) -> tu
     return outcome, time.monotonic() - start
 
 
+def tap_name(name: str) -> str:
+    """A name in a line of TAP, where a # begins a directive: one of TODO or SKIP would excuse a failure."""
+    return name.replace("#", r"\x23")
+
+
 def tell(number: int, result: Result) -> None:
-    name, outcome = files.shown(result.case.path), result.outcome
+    name, outcome = tap_name(files.shown(result.case.path)), result.outcome
     if not outcome.failure:
         print(f"ok {number} - {name} # {outcome.rows} rows, {outcome.expectations} expectations", flush=True)
         return

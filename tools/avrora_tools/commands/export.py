@@ -165,7 +165,10 @@ def blocks_of_pcapng(source: Source) -> Iterator[bytes]:
     scenario = source.needs_scenario()
     if source.nodes is not None:
         raise BadWords("pcapng takes all nodes: filter by interface (frame.interface_name) in Wireshark")
-    packets = pcapng.Packets(scenario, source.arguments.hz or cli.CLOCK, source.arguments.bytes)
+    hz = source.arguments.hz or cli.CLOCK
+    if not pcapng.has_times(scenario.cycles, hz):
+        raise BadWords(f"--hz {hz}: a packet of pcapng has no time as late as cycle {scenario.cycles:,}")
+    packets = pcapng.Packets(scenario, hz, source.arguments.bytes)
     yield from pcapng.heads(scenario, avrora_tools.__version__)
     count = 0
     for count, one in enumerate(packets.written(source.trace()), 1):

@@ -23,7 +23,8 @@ from avrora_tools.states import EPOCH, State
 # So many cycles are traced at once: few for steps, more to look for a breakpoint.
 STEP_SPAN, SEARCH_SPAN = 1_000, MAX_WINDOW
 
-# What is kept: states in memory, windows for steps, epochs' events, states at epochs' ends on the disk; bytes of traces.
+# What is kept: states in memory, windows for steps, epochs' events, states at epochs' ends on the disk, bytes of
+# traces.
 KEPT_STATES, KEPT_WINDOWS, KEPT_EPOCHS, KEPT_FILES = 32, 64, 64, 128
 KEPT_BYTES = 64_000_000
 
@@ -72,8 +73,8 @@ class History:
     """The run of a scenario."""
 
     def __init__(self, scenario: str, simulator: str, folder: str, state: str | None = None) -> None:
-        """`folder` is one for files of its own, which whoever made it clears away; the run begins in the state of the file
-        `state`, else at reset."""
+        """`folder` is one for files of its own, which whoever made it clears away; the run begins in the state of the
+        file `state`, else at reset."""
         self.simulator, self.own = simulator, folder
         self.place = os.path.dirname(os.path.abspath(scenario))
         self.path = os.path.abspath(scenario)

@@ -95,7 +95,8 @@ class Words:
 
     def bookmark(self, words: list[str]) -> str:
         if len(words) != 1:
-            return "\n".join(f"{printable(name)}: cycle {cycle:,}" for name, cycle in self.bookmarks.items()) or "no bookmark"
+            lines = [f"{printable(name)}: cycle {cycle:,}" for name, cycle in self.bookmarks.items()]
+            return "\n".join(lines) or "no bookmark"
         self.bookmarks[words[0]] = self.session.at.cycle
         return f"{printable(words[0])}: {self.here()}"
 

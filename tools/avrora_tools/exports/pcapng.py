@@ -52,6 +52,11 @@ def heads(scenario: Scenario, version: str) -> Iterator[bytes]:
         yield block(INTERFACE, struct.pack("<HHI", USER0, 0, LONGEST_PACKET) + options)
 
 
+def has_times(cycles: int, hz: int) -> bool:
+    """Whether each packet of so many cycles has a time of 64 bits."""
+    return cycles * 10**NANOSECONDS // hz < 1 << 63
+
+
 def packet(node: int, nanoseconds: int, data: bytes, direction: int, comment: str = "") -> bytes:
     options = option(COMMENT, comment.encode()) if comment else b""
     options += option(PACKET_FLAGS, struct.pack("<I", direction)) + option(END_OF_OPTIONS, b"")

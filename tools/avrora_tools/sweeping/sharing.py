@@ -8,7 +8,9 @@ from collections import defaultdict
 from collections.abc import Iterable, Sequence
 from dataclasses import dataclass
 
+from avrora_tools import elf_files
 from avrora_tools.programs import HANDLERS, Program
+from avrora_tools.showing import printable
 
 SLEEP = "sleep"
 
@@ -179,12 +181,10 @@ def register_name(at: int) -> str:
 
 def objects_of(path: str) -> list[DataObject]:
     """The variables in the symbols of an ELF file, by their data addresses."""
-    from elftools.elf.elffile import ELFFile
-
-    with open(path, "rb") as file:
-        table = ELFFile(file).get_section_by_name(".symtab")
+    with elf_files.opened(path) as elf:
+        table = elf.get_section_by_name(".symtab")
         return [
-            DataObject(symbol["st_value"] - DATA_SPACE, symbol["st_size"], symbol.name)
+            DataObject(symbol["st_value"] - DATA_SPACE, symbol["st_size"], printable(symbol.name))
             for symbol in (table.iter_symbols() if table else ())
             if symbol["st_info"]["type"] == "STT_OBJECT" and symbol["st_value"] > DATA_SPACE
         ]
