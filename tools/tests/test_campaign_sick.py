@@ -3,7 +3,6 @@ name is told."""
 import hashlib
 import os
 import signal
-import subprocess
 import unittest
 from unittest import mock
 
@@ -12,9 +11,11 @@ import pytest
 import sick
 from campaign_runs import folder, run_campaign
 from sick import CASE, COUNT, FIRST, SICKNESSES, assert_told, verdicts
-from support import needs_loopback, needs_module, wait_for
+from support import needs_loopback, needs_module
 from test_cluster import Cluster
 from avrora_tools import driving
+
+FAKETIME = "/usr/lib/x86_64-linux-gnu/faketime/libfaketime.so.1"
 
 
 def expected():
@@ -110,11 +111,10 @@ class OnDask(Cluster):
         text, _ = self.assert_told_of("", stop=True)
         self.assertIn("the worker sick did not prove itself while the campaign ran", text)
 
-    @unittest.skipUnless(os.path.exists("/usr/lib/x86_64-linux-gnu/faketime/libfaketime.so.1"), "needs libfaketime")
+    @unittest.skipUnless(os.path.exists(FAKETIME), "needs faketime (Debian's libfaketime)")
     def test_a_clock_that_runs_wild(self):
         """Whether it works or not, what comes of the runs is the same, and the others begin."""
-        library = "/usr/lib/x86_64-linux-gnu/faketime/libfaketime.so.1"
-        worker = self.start_worker("sick", env={"LD_PRELOAD": library, "FAKETIME": "+0 x1000"})
+        worker = self.start_worker("sick", env={"LD_PRELOAD": FAKETIME, "FAKETIME": "+0 x1000"})
         for name in ("well", "other"):
             self.start_worker(name)
         self.wait_for_workers(2)
