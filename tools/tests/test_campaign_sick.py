@@ -1,6 +1,5 @@
 """campaign: one worker of some is sick, after it has proved itself. What comes of the runs is what came of them without it, and its
 name is told."""
-import hashlib
 import os
 import signal
 import unittest
@@ -10,21 +9,12 @@ import pytest
 
 import sick
 from campaign_runs import folder, run_campaign
-from sick import CASE, COUNT, FIRST, SICKNESSES, assert_told, verdicts
+from sick import CASE, SICKNESSES, assert_told, expected, verdicts
 from support import needs_loopback, needs_module
 from test_cluster import Cluster
 from avrora_tools import driving
 
 FAKETIME = "/usr/lib/x86_64-linux-gnu/faketime/libfaketime.so.1"
-
-
-def expected():
-    """By hand: each run passes, and its trace is that of its latency."""
-    found = {}
-    for latency in range(FIRST, FIRST + COUNT):
-        rows = f"{latency} 0 sent AA\n{latency + 9} 1 heard 1 AA 0\n5000 0 end 10 running\n5000 1 end 10 running\n"
-        found[f"net latency={latency}"] = "passed", hashlib.sha256(rows.encode()).hexdigest()
-    return found
 
 
 @pytest.mark.parametrize("sickness", SICKNESSES)
