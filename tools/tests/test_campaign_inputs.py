@@ -21,8 +21,8 @@ expect = "late.expect"
 """
 TWO_KEYS = TEXT + '"input.2.hex" = ["02", "0202", "03FF"]\n"input.2.every" = [1, 5_000]\n'
 
-# Not met by each of them.
-LATE = 'within 0..600_000: count >= 2: * 2 sent AA\n'
+# Not met by those that start late, and by a node of another number.
+LATE = 'text 0 "from 2 packet 0: 22\\n"\nwithin 0..475_000: count >= 1: * 2 sent AA\n'
 
 
 def both_ways(text):
