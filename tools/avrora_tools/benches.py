@@ -102,7 +102,7 @@ class Bench:
         sick = None
         begun = time.monotonic()
         places = itertools.count()
-        jobs = [Job(*job) for job in jobs]  # dask's own protocol makes lists of tuples
+        jobs = [Job(*job) for job in jobs]  # by dask they come as plain tuples
 
         def made_together(job: Job) -> str:
             return repr(job[:2]) + str(job.moves[0]) if job.moves else str(next(places))

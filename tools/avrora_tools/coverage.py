@@ -137,21 +137,20 @@ def shards_in(folder: str) -> list[str]:
 
 def merge(
     campaign: Campaign, store: results.Store, paths: Sequence[str], adopts: bool, say: Callable[[str], None]
-) -> int:
-    """Takes the results of parts over into the results of the whole campaign; how many. What the campaign has already, of the
-    same version, stays. Raises BadInput where a file is of another campaign."""
+) -> tuple[int, list[str]]:
+    """Takes the results of parts over into the results of the whole campaign: how many, and what is not as it should be. What the
+    campaign has already, of the same version, stays. Raises BadInput where a file is of another campaign."""
     count = 0
     with contextlib.ExitStack() as stack:
         readings = [stack.enter_context(results.reading(path, adopts, say)) for path in paths]
-        for line in covered(readings, True).told:
-            say(line)
+        told = covered(readings, False).told
         for reading in readings:
             if reading.about.get("campaign") != campaign.signature:
                 raise BadInput(f"{files.shown(reading.path)}: of another campaign than {campaign.path}, or of other files")
         for reading in readings:
             with Folder.above(reading.path) as folder:
                 count += merged(store, reading, folder)
-    return count
+    return count, told
 
 
 def about_whole(campaign: Campaign, store: results.Store, paths: Sequence[str]) -> dict[str, str]:

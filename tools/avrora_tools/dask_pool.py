@@ -80,7 +80,8 @@ class DaskPool:
 
     def send(self, worker: Worker, ticket: int, jobs: Sequence[runs.Job]) -> None:
         assert isinstance(worker, DaskWorker)
-        worker.tickets[ticket] = self.submit(worker, ticket, self.run_batch, list(jobs))
+        plain = [tuple(job) for job in jobs]  # a worker of dask has nothing of this package
+        worker.tickets[ticket] = self.submit(worker, ticket, self.run_batch, plain)
 
     def wait(self, seconds: float) -> list[Event]:
         events = self.look()

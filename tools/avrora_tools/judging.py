@@ -125,8 +125,13 @@ class Judge:
         until = self.until_sample.get(worker)
         if not until:
             return False
-        self.until_sample[worker] = until - 1 or self.sample
+        self.until_sample[worker] = until - 1 or self.next_gap()
         return until == 1
+
+    def next_gap(self) -> int:
+        """How many runs go by up to the next that is made again: as many as `sample` on the average, and drawn, so that no lie that
+        comes each so many runs goes by."""
+        return random.randint(1, 2 * self.sample - 1)
 
     def weigh(self, attempt: Attempt, answer: runs.Answer, worker: Worker) -> None:
         """Settles a run by an answer, or asks another worker first."""

@@ -8,6 +8,7 @@ import os
 import pkgutil
 import signal
 import sys
+import threading
 import traceback
 from collections.abc import Sequence
 from types import ModuleType
@@ -24,6 +25,7 @@ from avrora_tools.cli import Parser
 TRACEBACK_VARIABLE = "AVRORA_TOOLS_TRACEBACK"
 
 INTERRUPTED = 128 + signal.SIGINT
+SECONDS_TO_NEXT = 0.01  # after an interrupt that could not be raised
 
 
 def names() -> list[str]:
@@ -90,11 +92,11 @@ def main(words: Sequence[str] | None = None) -> NoReturn:
 
 def hear_interrupts() -> None:
     """From here on ^C raises KeyboardInterrupt, and so does one that came before: `entry` and ./avrora-tools keep it until
-    now. One that comes where nothing can be raised comes again."""
+    now. One that comes where nothing can be raised, as in a callback, comes again a little later."""
 
     def again(unraisable: "sys.UnraisableHookArgs") -> None:
         if issubclass(unraisable.exc_type, KeyboardInterrupt):
-            os.kill(os.getpid(), signal.SIGINT)
+            threading.Timer(SECONDS_TO_NEXT, os.kill, (os.getpid(), signal.SIGINT)).start()
         else:
             sys.__unraisablehook__(unraisable)
 

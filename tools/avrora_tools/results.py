@@ -268,6 +268,12 @@ class Store:
         found = self.believed("run", "WHERE r.number IN (SELECT value FROM json_each(?))", (compact(list(numbers)),))
         return {row[0]: (row, of) for row, of in found}
 
+    def count_final(self, identity: str) -> int:
+        """How many results are final that a sitting which went by the same has come to."""
+        query = """SELECT count(*) FROM run JOIN sitting ON sitting.id = run.sitting
+            WHERE identity = ? AND outcome IN (SELECT value FROM json_each(?))"""
+        return int(self.database.execute(query, (identity, compact(runs.FINAL))).fetchone()[0])
+
     def without_result(self, numbers: Sequence[int]) -> list[int]:
         """Which of these runs have no row."""
         query = "SELECT number FROM run WHERE number IN (SELECT value FROM json_each(?))"

@@ -13,7 +13,8 @@ from collections.abc import Callable, Iterator
 from avrora_tools import benches, campaigns, checkers, draws, driving, files, pools, results, runs, scenarios, terminal, watching
 from avrora_tools.attempts import Attempt
 from avrora_tools.campaigns import Campaign, Shard
-from avrora_tools.errors import BadInput, ToolError
+from avrora_tools.errors import BadInput, CannotWork, ToolError
+from avrora_tools.files import printable
 from avrora_tools.variants import Run
 from avrora_tools.writing import Folder
 
@@ -240,7 +241,7 @@ class Counts:
         now = self.driver.clock()
         if is_last or now >= self.next:
             self.next = now + watching.SECONDS_A_COUNT
-            self.write(watching.metrics(self.name, self.driver.progress, self.driver.crew.tallies, now))
+            self.write(watching.metrics(self.name, self.driver.progress, self.driver.crew.tallies, now, not is_last))
 
 
 def run_wanted(sitting: Sitting, simulator: bytes) -> None:
@@ -253,7 +254,8 @@ def run_wanted(sitting: Sitting, simulator: bytes) -> None:
             first = sitting.wanted()
             begun = first_of(first, progress) if first else None
             if progress.kept:
-                progress.say(f"{progress.kept} of {progress.total} results are there already, and are kept")
+                kept = max(progress.kept, store.count_final(sitting.identity.whole))
+                progress.say(f"{kept} of {progress.total} results are there already, and are kept")
             if begun is None or first is None:
                 return
             iterators: list[Iterator[Attempt | None]] = [itertools.chain([begun], first)]
@@ -272,6 +274,11 @@ def run_wanted(sitting: Sitting, simulator: bytes) -> None:
                 told()
 
             driver.drive(lambda: iterators.pop() if iterators else sitting.wanted(), rest)
+            if sitting.is_enough and progress.left:
+                progress.say(
+                    f"ended, as {sitting.failures} runs are failed or refused; {progress.left:,} have no result yet, and the "
+                    "same command goes on from there"
+                )
         except (KeyboardInterrupt, ToolError):
             there = progress.kept + progress.done
             progress.say(f"cut, with {there} of {progress.total} results; the same command goes on from there")
@@ -334,15 +341,17 @@ def tell_cost(campaign: Campaign, words: Words, simulator: bytes) -> None:
         driver.drive(lambda: iterators.pop() if iterators else None, lambda: None)
         workers = max(1, len(driver.crew))
     progress.end()
+    if progress.outcomes[runs.BROKEN] == count:
+        raise CannotWork(f"none of {count} drawn runs came to an answer: {printable(answers[0]['message'])}")
     each = sum(answer["seconds"] for answer in answers) / len(answers)
     processor = sum(answer["processor"] for answer in answers) / len(answers)
     slowest = max(answer["seconds"] for answer in answers)
-    outcomes = ", ".join(f"{count} {word}" for word, count in progress.outcomes.items() if count)
+    outcomes = ", ".join(f"{number} {word}" for word, number in progress.outcomes.items() if number)
     total = len(numbers)
-    kept = sum(len(answer["trace"] or b"") for answer in answers) / len(answers)
+    size = total * (ROW_BYTES + sum(len(answer["trace"] or b"") for answer in answers) / len(answers))
     print(f"{count} drawn runs: {outcomes}; {1_000 * each:.1f} ms each, the slowest {1_000 * slowest:.1f} ms")
-    print(f"{total:,} runs: {shown_seconds(each * total / workers)} with {workers} workers, {shown_seconds(processor * total)} of")
-    print(f"processors for the simulator, about {shown_bytes(total * (ROW_BYTES + kept))} of results")
+    print(f"{total:,} runs: about {shown_seconds(each * total / workers)} with {workers:,} workers")
+    print(f"the simulator takes {shown_seconds(processor * total)} of processors for them, and results {shown_bytes(size)}")
 
 
 ROW_BYTES = 300  # of a result in the file, about

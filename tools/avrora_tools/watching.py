@@ -154,7 +154,7 @@ NUMBERS = {
 }
 
 
-def metrics(name: str, progress: Progress, tallies: Mapping[str, Tally], now: float) -> str:
+def metrics(name: str, progress: Progress, tallies: Mapping[str, Tally], now: float, is_running: bool) -> str:
     """The counts in Prometheus' text format."""
     campaign = f'campaign="{label(name)}"'
     lines = []
@@ -165,6 +165,8 @@ def metrics(name: str, progress: Progress, tallies: Mapping[str, Tally], now: fl
     family("results", "gauge", "Results of this sitting by outcome, and those that were there before.")
     for outcome, count in {**dict.fromkeys(runs.OUTCOMES, 0), **progress.outcomes, "kept": progress.kept}.items():
         lines.append(f'avrora_campaign_results{{{campaign},outcome="{outcome}"}} {count}')
+    family("running", "gauge", "1 while the campaign is at work, 0 once it has ended by itself.")
+    lines.append(f"avrora_campaign_running{{{campaign}}} {int(is_running)}")
     family("wanted", "gauge", "Runs of the campaign in all.")
     lines.append(f"avrora_campaign_wanted{{{campaign}}} {progress.total}")
     for number, what in NUMBERS.items():

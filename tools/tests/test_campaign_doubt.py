@@ -127,9 +127,27 @@ def test_one_in_a_hundred_is_made_again():
     pool = Answering("abcd")
     found, said = driven(pool, 20_000)
     again = sum(pool.answered.values()) - 20_000
-    assert 180 <= again <= 220, again
+    assert 150 <= again <= 250, again
     assert again == sum(second is not None for *_, second in found.values())
     assert not said
+
+
+class Regular(Answering):
+    """One lies in each tenth run, of which a hundred is a multiple."""
+
+    def answer(self, worker, number):
+        found = super().answer(worker, number)
+        lies = worker.name == "d" and self.answered["d"] % (driving.SAMPLE // 10) == 0
+        self.lied[worker.name] += lies
+        return {**found, "hash": f"{number + lies:064x}"}
+
+
+def test_a_lie_in_step_with_second_opinions():
+    """It is found, as these come at drawn places; then what it alone said is made again."""
+    pool = Regular("abcd")
+    found, said = driven(pool, 600 * driving.SAMPLE)
+    assert pool.lied["d"] > 0 and not wrong(found)
+    assert any(text.startswith("the worker d is set aside: it came to ") for text in said), pool.lied
 
 
 def test_all_lie():

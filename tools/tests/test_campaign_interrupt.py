@@ -70,6 +70,7 @@ def test_at_drawn_moments():
 EARLY = """import os, signal, sys
 sys.path.insert(0, {tools!r})
 signal.signal(signal.SIGINT, signal.default_int_handler)
+from avrora_tools import entry
 class Finder:
     def find_spec(self, name, path=None, target=None):
         if name == {name!r}:
@@ -90,7 +91,7 @@ def test_while_it_imports(name, status):
 
 def test_where_nothing_can_be_raised():
     """In a callback of which Python tells an exception alone, it comes again."""
-    script = f"""import os, signal, sys
+    script = f"""import os, signal, sys, time
 sys.path.insert(0, {TOP + "/tools"!r})
 from avrora_tools import main
 signal.signal(signal.SIGINT, signal.default_int_handler)
@@ -100,7 +101,7 @@ class Late:
         sum(range(1000))
 def run(words):
     Late()
-    return 0
+    time.sleep(600)
 main.run = run
 main.main([])
 """
@@ -114,7 +115,7 @@ def test_where_it_is_ignored_it_stays_so():
 sys.path.insert(0, {TOP + "/tools"!r})
 signal.signal(signal.SIGINT, signal.SIG_IGN)
 sys.argv[1:] = ["--version"]
-from avrora_tools import main
+from avrora_tools import entry, main
 was = main.run
 main.run = lambda words: print(signal.getsignal(signal.SIGINT) is signal.SIG_IGN) or was(words)
 entry.main()

@@ -1,9 +1,7 @@
 """campaign: one worker of some is sick, after it has proved itself. What comes of the runs is what came of them without it, and its
 name is told."""
-import hashlib
 import os
 import signal
-import subprocess
 import unittest
 from unittest import mock
 
@@ -11,19 +9,12 @@ import pytest
 
 import sick
 from campaign_runs import folder, run_campaign
-from sick import CASE, COUNT, FIRST, SICKNESSES, assert_told, verdicts
-from support import needs_loopback, needs_module, wait_for
+from sick import CASE, SICKNESSES, assert_told, expected, verdicts
+from support import needs_loopback, needs_module
 from test_cluster import Cluster
 from avrora_tools import driving
 
-
-def expected():
-    """By hand: each run passes, and its trace is that of its latency."""
-    found = {}
-    for latency in range(FIRST, FIRST + COUNT):
-        rows = f"{latency} 0 sent AA\n{latency + 9} 1 heard 1 AA 0\n5000 0 end 10 running\n5000 1 end 10 running\n"
-        found[f"net latency={latency}"] = "passed", hashlib.sha256(rows.encode()).hexdigest()
-    return found
+FAKETIME = "/usr/lib/x86_64-linux-gnu/faketime/libfaketime.so.1"
 
 
 @pytest.mark.parametrize("sickness", SICKNESSES)
@@ -110,11 +101,10 @@ class OnDask(Cluster):
         text, _ = self.assert_told_of("", stop=True)
         self.assertIn("the worker sick did not prove itself while the campaign ran", text)
 
-    @unittest.skipUnless(os.path.exists("/usr/lib/x86_64-linux-gnu/faketime/libfaketime.so.1"), "needs libfaketime")
+    @unittest.skipUnless(os.path.exists(FAKETIME), "needs faketime (Debian's libfaketime)")
     def test_a_clock_that_runs_wild(self):
         """Whether it works or not, what comes of the runs is the same, and the others begin."""
-        library = "/usr/lib/x86_64-linux-gnu/faketime/libfaketime.so.1"
-        worker = self.start_worker("sick", env={"LD_PRELOAD": library, "FAKETIME": "+0 x1000"})
+        worker = self.start_worker("sick", env={"LD_PRELOAD": FAKETIME, "FAKETIME": "+0 x1000"})
         for name in ("well", "other"):
             self.start_worker(name)
         self.wait_for_workers(2)

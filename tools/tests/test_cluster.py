@@ -158,6 +158,35 @@ class Sick(Cluster):
         self.assertIn("Exec format error", text)
 
 
+class SeveralClients(Cluster):
+    """Two campaigns at a time on one scheduler."""
+
+    CAMPAIGN = CAMPAIGN.replace("[1, 3, 4, 20, 30]", "{ from = 100, to = 119 }")
+    WORKERS = 2
+
+    def test_each_has_its_own(self):
+        """Both come to their ends with their own results, and nothing is left on the scheduler."""
+        self.wait_for_workers(2)
+        with folder(self.CAMPAIGN, "* 1 heard *\n") as path:
+            words = [*TOOL, "campaign", "--avrora", f"{path}/avrora", "--scheduler", self.address, f"{path}/c.toml"]
+            other = self.start(words, stdout=subprocess.DEVNULL, stderr=subprocess.PIPE, text=True)
+            status, text = self.ended(*self.start_campaign())
+            errors = other.communicate(timeout=LONG)[1]
+            self.assertEqual((status, other.returncode), (0, 0), text + errors)
+            with open(f"{path}/c.results/summary.jsonl", encoding="utf-8") as file:
+                rows = [json.loads(line) for line in file]
+        for found, said in ((self.rows(), text), (rows, errors)):
+            self.assertEqual([row["parameters"]["latency"] for row in found], list(range(100, 120)))
+            self.assertEqual({row["outcome"] for row in found}, {"passed"})
+            self.assertNotIn("set aside", said)
+        self.assertEqual({row["host"].split()[-1] for row in self.rows() + rows}, {"worker0", "worker1"})
+        code = """import distributed, sys
+client = distributed.Client(sys.argv[1])
+print(client.run_on_scheduler(lambda dask_scheduler: sorted(dask_scheduler.worker_plugins)))"""
+        left = subprocess.run([sys.executable, "-c", code, self.address], capture_output=True, text=True, timeout=LONG, env=self.env)
+        self.assertNotIn("campaign-", left.stdout)
+
+
 class ClientKilled(Cluster):
     CAMPAIGN = CAMPAIGN.replace("[1, 3, 4, 20, 30]", "{ from = 100, to = 119 }")
     HELD = 115  # behind the second batch, whoever comes first

@@ -163,11 +163,14 @@ def merge(arguments: argparse.Namespace) -> int:
         raise BadInput(f"{files.shown(place)}: no results of parts are there")
     with opened_store(campaign, arguments) as store:
         store.arrange(sittings.about_of(campaign, Shard())["signature"], campaign.runs())
-        count = coverage.merge(campaign, store, paths, arguments.adopt, terminal.say)
+        count, told = coverage.merge(campaign, store, paths, arguments.adopt, terminal.say)
         store.note(**coverage.about_whole(campaign, store, paths))
         report = reports.Report([store.database])
         reports.write_summaries(report, store.folder)
         terminal.say(f"{count:,} results of {len(paths):,} files are taken over")
+        if sum(report.outcomes().values()) < campaign.count:
+            for line in told:
+                terminal.say(line)
         report.print_table(sys.stdout, store.folder.path_of("summary.txt"))
         return status_of(report)
 
