@@ -153,6 +153,13 @@ def test_numbers_are_those_of_c(names):
     assert holds(names, "(wide >> 4 & 0xF) == 0xA", wide=0xA0)
 
 
+def test_an_element_whose_number_is_worked_out(names):
+    row = {f"box__row[{a}][{b}]": 10 * a + b for a in range(2) for b in range(3)}
+    assert holds(names, "box.row[wide & 1][box.count - 1] == 12", wide=3, box__count=3, **row)
+    assert not holds(names, "box.row[wide & 1][box.count - 1] == 12", wide=2, box__count=3, **row)
+    assert not holds(names, "box.row[wide][0] == box.row[wide][0]", wide=2, **row)  # no such element
+
+
 def test_enumerators_stand_for_their_numbers(names):
     assert holds(names, "box.state == BUSY", box__state=5)
     assert holds(names, "box.state != LOST", box__state=5)
@@ -172,7 +179,9 @@ def test_enumerators_stand_for_their_numbers(names):
         ("f(wide)", "has no place in a condition"),
         ("wide if wide else 1", "has no place in a condition"),
         ("wide in (1, 2)", "has no place in a condition|one of =="),
-        ("box.row[wide] == 1", "no name"),
+        ("box.row[1:2] == 1", "no name"),
+        ("wide[wide] == 1", "no array"),
+        ("box.row[wide] == 1", "name a part"),
         ("wide == 'AB'", "no number and no character"),
         ("wide == " + "1 + " * 400 + "1", "at most"),
         ("-" * 200 + "wide", "fifty parts|no condition"),

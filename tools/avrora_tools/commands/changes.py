@@ -52,7 +52,7 @@ class Teller:
         """That a condition does not hold, with its values and what changed the last of them."""
         node, condition = found.watched.node, found.watched.condition
         targets = self.network.names(node).targets
-        values = [f"{one.name} is {one.shown(found.values[one.name], targets)}" for one in condition.quantities]
+        values = [f"{one.name} is {one.shown(found.values[one.name], targets)}" for one in condition.named]
         when = "as it begins" if found.moment is None else "from there on"
         at = cli.shown_cycle(found.cycle, self.hz).strip()
         shown = files.printable(condition.text)

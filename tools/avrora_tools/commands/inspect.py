@@ -12,8 +12,8 @@ from avrora_tools.states import Node, State
 
 SUMMARY = "a state in words; what differs between two"
 
-DESCRIPTION = """Shows what `avrora save` or `avrora look` wrote: each node's processor, stack and devices, and what is on
-the air. With --at CYCLE it takes a scenario, and shows the state in which its run begins that cycle. With a second
+DESCRIPTION = """Shows what `avrora save` or `avrora look` wrote: each node's processor, stack and devices, and what is
+on the air. With --at CYCLE it takes a scenario, and shows the state in which its run begins that cycle. With a second
 state it tells instead what differs, by name: the number of the first state, then that of the second. Addresses of the
 program are word addresses, as in a trace. Status of a comparison: 0 nothing differs, 1 something does.
 

@@ -10,6 +10,7 @@ from dataclasses import replace
 from avrora_tools import cases, cli, files, programs, scenarios, shipping, toml
 from avrora_tools.errors import BadInput, BadWords, Status
 from avrora_tools.states import State
+from avrora_tools.sweeping.always import AlwaysCheck, always_check
 from avrora_tools.sweeping.cluster import WRITTEN, ClusterTails
 from avrora_tools.sweeping.events import InputByte, Move, Moved, MovedScenario, moved_scenario, parsed_event
 from avrora_tools.sweeping.journal import Journal, digest
@@ -53,7 +54,8 @@ classes are run, unless --quick, --runs, --stop, --per-place or a step says othe
 not. --quick is a first look: a clean one proves nothing.
 
 Each run is checked at its end, which is the deadline of all that is checked: the scenario's `cycles`, or --until.
-Unless --expect or --check says otherwise each node is to write to USART0 what it writes in the run that is not moved.
+Unless --expect, --check or --always says otherwise each node is to write to USART0 what it writes in the run that is not
+moved.
 With -e, of the program of the node whose byte moves, functions, lines and what handlers share with main have their
 names, and it is told where a failing run parts from one that passes.
 
@@ -102,8 +104,10 @@ def prepared(arguments: argparse.Namespace, limit: Limit | None = None) -> Itera
     moved, order = moved_events(arguments)
     if arguments.quick and not (arguments.elf and isinstance(moved[-1].event, InputByte)):
         raise BadWords("--quick goes by what handlers share with main: it needs -e, and a byte that moves")
-    if arguments.expect and arguments.check:
-        raise BadWords("either --expect or --check")
+    if len([it for it in (arguments.expect, arguments.check, arguments.always) if it]) > 1:
+        raise BadWords("one of --expect, --check and --always")
+    if arguments.always and arguments.scheduler:
+        raise BadWords("--always is of runs of this machine")
     if arguments.state and arguments.expect:
         raise BadWords("--expect wants the whole trace, and a state has no rows of what was before it")
     state = files.read_bytes(arguments.state) if arguments.state else None
@@ -183,6 +187,9 @@ def program_of(
 
 
 def check_of(arguments: argparse.Namespace, tails: ProcessTails, scenario: MovedScenario, order: list[int]) -> Check:
+    if arguments.always:
+        elfs = [arguments.elf] if arguments.elf else []
+        return always_check(arguments.always, tails, arguments.scenario, elfs, arguments.force)
     if arguments.check:
         return PredicateCheck(tails.head, predicate_of(arguments.check), order)
     if arguments.expect:
@@ -206,7 +213,7 @@ def check_unmoved(
 ) -> None:
     """Checks the run that is not moved, so that a check that fails anyway, or cannot work, is told at once. Where that run
     cannot be made the first move shows at least that the check works."""
-    if not isinstance(check, (CaseCheck, PredicateCheck)):
+    if not isinstance(check, (CaseCheck, PredicateCheck, AlwaysCheck)):
         return  # that run is what it compares with
     try:
         *head, rows = reference(arguments, tails, scenario, scenario.until)
@@ -215,7 +222,9 @@ def check_unmoved(
         check.failure(first, tails.output(first))
         return
     move = base_move(arguments.base, scenario) if arguments.base else scenario.unmoved()
-    if wrong := replace(check, head=b"".join(head)).failure(move, rows):
+    if not isinstance(check, AlwaysCheck):
+        check = replace(check, head=b"".join(head))
+    if wrong := check.failure(move, rows):
         raise BadInput(
             f"the run that is not moved fails too: {wrong}. Either the check is wrong for this scenario, or the deadline "
             f"in cycle {scenario.until:,} (--until) is too near; --base VALUE names another run to begin with"
@@ -229,7 +238,7 @@ def journal_of(arguments: argparse.Namespace, tails: ProcessTails, order: list[i
     scenario = tails.scenario
     nodes: list[dict[str, str]] = scenario.document["node"]
     images = sorted({node["image"] for node in nodes})
-    named = {"check": arguments.check, "expect": arguments.expect}
+    named = {"check": arguments.check, "expect": arguments.expect, "elf": arguments.always and arguments.elf}
     parts: dict[str, object] = {
         "scenario": scenario.document,
         "images": [(name, digest({name: files.read_bytes(os.path.join(tails.simulator.folder, name))})) for name in images],
@@ -237,6 +246,7 @@ def journal_of(arguments: argparse.Namespace, tails: ProcessTails, order: list[i
         "state": tails.state or b"",
         "simulator": shipping.program(arguments.avrora),
         "words": [arguments.compare, arguments.drop, sorted(arguments.nodes or []), arguments.base, arguments.all],
+        "always": arguments.always or [],
         **{name: files.read_bytes(path) for name, path in named.items() if path},
     }
     return Journal(arguments.resume, digest(parts))
@@ -310,6 +320,12 @@ def configure(parser: argparse.ArgumentParser) -> None:
     parser.add_argument("--state", metavar="STATE", help="go on from this state of the scenario")
     parser.add_argument("--expect", metavar="CASE", help="check each run by this case of `expect`")
     parser.add_argument("--check", metavar="FILE", help="check each run by the function check(run) of this Python file")
+    parser.add_argument(
+        "--always",
+        action="append",
+        metavar="'NODE CONDITION'",
+        help="check that this holds of a node's variables (-e) in every cycle of each run: '1 queued <= 3'",
+    )
     parser.add_argument(
         "--compare",
         choices=[it.value for it in Compare],

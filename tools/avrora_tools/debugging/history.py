@@ -72,11 +72,13 @@ class Window:
 class History:
     """The run of a scenario."""
 
-    def __init__(self, scenario: str, simulator: str, folder: str, state: str | None = None) -> None:
+    def __init__(
+        self, scenario: str, simulator: str, folder: str, state: str | None = None, place: str | None = None
+    ) -> None:
         """`folder` is one for files of its own, which whoever made it clears away; the run begins in the state of the
         file `state`, else at reset."""
         self.simulator, self.own = simulator, folder
-        self.place = os.path.dirname(os.path.abspath(scenario))
+        self.place = place or os.path.dirname(os.path.abspath(scenario))
         self.path = os.path.abspath(scenario)
         marks = {self.path: mark_of(self.path)}
         self.text = files.read_text(scenario).removeprefix(toml.BYTE_ORDER_MARK)
@@ -374,7 +376,10 @@ def line_at(text: bytes, cycle: int) -> int:
 
 
 @contextlib.contextmanager
-def history(scenario: str, simulator: str, state: str | None = None) -> Iterator[History]:
-    """The run of a scenario, from a state on or from reset, with a folder of its own while it is used."""
+def history(
+    scenario: str, simulator: str, state: str | None = None, place: str | None = None
+) -> Iterator[History]:
+    """The run of a scenario, from a state on or from reset, with a folder of its own while it is used. Its images are in
+    the folder `place`, else beside the scenario."""
     with tempfile.TemporaryDirectory(prefix="avrora-gdb-") as folder:
-        yield History(scenario, simulator, folder, state)
+        yield History(scenario, simulator, folder, state, place)

@@ -26,7 +26,7 @@ class Range(NamedTuple):
 
 
 class Write(NamedTuple):
-    """A value that is written: the cycles in which its first and its last byte change, the node, and what is watched."""
+    """A value that is written: the cycles in which its first and its last byte change, the node, what is watched."""
 
     first: int
     last: int

@@ -25,6 +25,7 @@ PACKET_FLAGS = 2
 INBOUND, OUTBOUND = 1, 2
 USER0 = 147
 NANOSECONDS = 9  # the resolution of times, as a power of ten
+NANOSECONDS_A_SECOND = 10**NANOSECONDS
 LONGEST_PACKET = 256
 
 
@@ -54,7 +55,7 @@ def heads(scenario: Scenario, version: str) -> Iterator[bytes]:
 
 def has_times(cycles: int, hz: int) -> bool:
     """Whether each packet of so many cycles has a time of 64 bits."""
-    return cycles * 10**NANOSECONDS // hz < 1 << 63
+    return cycles * NANOSECONDS_A_SECOND // hz < 1 << 63
 
 
 def packet(node: int, nanoseconds: int, data: bytes, direction: int, comment: str = "") -> bytes:

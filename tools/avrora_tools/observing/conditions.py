@@ -4,15 +4,17 @@ import itertools
 import math
 import operator
 import re
-from collections.abc import Callable, Mapping
+from collections.abc import Callable, Mapping, Sequence
 from dataclasses import dataclass
 
 from avrora_tools import files
 from avrora_tools.errors import BadInput
-from avrora_tools.observing.quantities import Names, Quantity, enumerators_of
+from avrora_tools.observing.quantities import Names, Quantity, bare, enumerators_of
+from avrora_tools.variables import Array
 
 LONGEST = 1_000  # letters of a condition
 MOST_DEPTH = 50
+MOST_ELEMENTS = 256  # of an array, where it is worked out which one is meant
 MOST_BITS = 16  # of all quantities of a condition, where each value is tried
 
 Number = int | float
@@ -99,6 +101,7 @@ class Condition:
     text: str
     quantities: tuple[Quantity, ...]
     holds: Callable[[Values], bool]
+    named: tuple[Quantity, ...]  # those that it names itself, and not each element of which it may mean one
 
 
 class Reader:
@@ -108,6 +111,8 @@ class Reader:
         self.names = names
         self.enumerators = enumerators_of(names)
         self.found: dict[str, Quantity] = {}
+        self.told: dict[str, Quantity] = {}
+        self.within_element = False
 
     def read(self, text: str) -> Condition:
         """Raises BadInput where it is none, names what is not there, or is the same whatever the values are."""
@@ -118,14 +123,15 @@ class Reader:
             tree = ast.parse(of_python(text).strip(), mode="eval").body
         except (SyntaxError, ValueError, MemoryError, RecursionError):
             raise BadInput(f"`{shown}` is no condition such as `queued <= 3`") from None
-        self.found = {}
+        self.found, self.told = {}, {}
         try:
             term = self.term(tree, 0)
         except RecursionError:
             raise BadInput(f"`{shown}`: too deep") from None
         if not self.found:
             raise BadInput(f"`{shown}` names no variable and no register, so no run can change it")
-        found = Condition(text, tuple(self.found.values()), lambda values: bool(term(values)))
+        named = tuple(self.told.values())
+        found = Condition(text, tuple(self.found.values()), lambda values: bool(term(values)), named)
         refuse_certain(found)
         return found
 
@@ -144,7 +150,7 @@ class Reader:
             work, a, b = OPERATIONS[type(tree.op)], self.term(tree.left, depth + 1), self.term(tree.right, depth + 1)
             return lambda values: work(a(values), b(values))
         if isinstance(tree, (ast.Name, ast.Attribute, ast.Subscript)):
-            return self.named(spelled(tree))
+            return self.part("", parts_of(tree), depth)
         raise BadInput(f"`{files.printable(ast.unparse(tree))}` has no place in a condition")
 
     def joined(self, tree: ast.BoolOp, depth: int) -> Term:
@@ -178,6 +184,34 @@ class Reader:
 
         return holds
 
+    def part(self, before: str, parts: Sequence[str | ast.expr], depth: int) -> Term:
+        """What stands behind a name: members, elements, and elements whose numbers are worked out."""
+        for place, part in enumerate(parts):
+            if not isinstance(part, str):
+                return self.element(before, part, parts[place + 1 :], depth)
+            before += part
+        return self.named(before)
+
+    def element(self, name: str, index: ast.expr, behind: Sequence[str | ast.expr], depth: int) -> Term:
+        """An element whose number is worked out: all of them are watched. One that is not there is no number."""
+        whole = bare(self.names.part(name).type)
+        if not isinstance(whole, Array):
+            raise BadInput(f"`{files.printable(name)}` is no array")
+        if whole.count > MOST_ELEMENTS:
+            raise BadInput(
+                f"`{files.printable(name)}` has {whole.count:,} elements, and {MOST_ELEMENTS} are the most: name one"
+            )
+        number = self.term(index, depth + 1)
+        outer, self.within_element = self.within_element, True
+        terms = [self.part(f"{name}[{place}]", behind, depth + 1) for place in range(whole.count)]
+        self.within_element = outer
+
+        def chosen(values: Values) -> Number:
+            place = number(values)
+            return terms[int(place)](values) if place in range(len(terms)) else math.nan
+
+        return chosen
+
     def named(self, name: str) -> Term:
         if name not in self.names.variables and name in self.enumerators:
             number = self.enumerators[name]
@@ -187,6 +221,8 @@ class Reader:
             return lambda values: number
         found = self.names.quantity(name)
         self.found[found.name] = found
+        if not self.within_element:
+            self.told[found.name] = found
         return lambda values: values[found.name]
 
 
@@ -219,12 +255,17 @@ def constant(value: object) -> Term:
     raise BadInput(f"`{files.printable(str(value))[:40]}` is no number and no character")
 
 
-def spelled(tree: ast.expr) -> str:
-    """The name that a tree of members and elements spells."""
+def parts_of(tree: ast.expr) -> list[str | ast.expr]:
+    """The name that a tree of members and elements spells, in pieces; an element whose number is worked out by its
+    tree."""
     if isinstance(tree, ast.Name):
-        return tree.id
+        return [tree.id]
     if isinstance(tree, ast.Attribute):
-        return f"{spelled(tree.value)}.{tree.attr}"
-    if isinstance(tree, ast.Subscript) and isinstance(tree.slice, ast.Constant) and isinstance(tree.slice.value, int):
-        return f"{spelled(tree.value)}[{tree.slice.value}]"
-    raise BadInput(f"`{files.printable(ast.unparse(tree))}` is no name: an element has a number, as `items[3]`")
+        return [*parts_of(tree.value), f".{tree.attr}"]
+    if isinstance(tree, ast.Subscript):
+        index = tree.slice
+        if isinstance(index, ast.Constant) and isinstance(index.value, int):
+            return [*parts_of(tree.value), f"[{index.value}]"]
+        if not isinstance(index, (ast.Slice, ast.Tuple)):
+            return [*parts_of(tree.value), index]
+    raise BadInput(f"`{files.printable(ast.unparse(tree))}` is no name")

@@ -113,7 +113,7 @@ class Observer:
         cycle, where = it.decided
         targets = self.network.names(node).targets
         values = [
-            f"{one.name} is {one.shown(where.values[one.name], targets)}" for one in where.watched.condition.quantities
+            f"{one.name} is {one.shown(where.values[one.name], targets)}" for one in where.watched.condition.named
         ]
         what = "does not hold" if it.stated.word == "always" else "holds"
         return f"{text} {what} at node {node} in cycle {cycle}: {', '.join(values)}"

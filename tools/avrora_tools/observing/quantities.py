@@ -8,7 +8,7 @@ from collections.abc import Iterator, Mapping
 from dataclasses import dataclass, field
 from typing import Any
 
-from avrora_tools import files
+from avrora_tools import elf_files, files
 from avrora_tools.errors import BadInput
 from avrora_tools.inspection import Targets, View
 from avrora_tools.observing.places import REGISTERS, SP_LOW, SREG, Kind, Place
@@ -30,7 +30,6 @@ from avrora_tools.variables import (
     Variable,
     member_bytes,
     number_of,
-    reader,
     text_in,
 )
 
@@ -285,11 +284,12 @@ def enumerators_of(names: Names) -> dict[str, int]:
 def why_without_place(path: str, name: str, first: str) -> str | None:
     """What a program says of a variable that has no place of its own in the data space; None where it says nothing of
     it."""
-    with files.opened(path) as file:
-        elf = reader()(file)
+    with elf_files.opened(path) as elf:
         if not elf.has_dwarf_info():
             return "cannot be found, as the file says nothing of variables; compile with -gdwarf-2"
-        for unit in elf.get_dwarf_info().iter_CUs():
+        dwarf = elf.get_dwarf_info()
+        elf_files.entry_places(dwarf)
+        for unit in dwarf.iter_CUs():
             for entry in unit.iter_DIEs():
                 if why := why_of(entry, name, first):
                     return why

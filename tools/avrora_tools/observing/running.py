@@ -32,6 +32,7 @@ class Run:
     limit: int
     state: str | None = None
     first: int = 0
+    moves: str | None = None  # a file of one move, which the run from the state on makes
 
     @classmethod
     def of(cls, simulator: str, scenario: str, limit: int, state: str | None = None) -> "Run":
@@ -44,8 +45,9 @@ class Run:
         """The same from a state of it on, in the file `state`."""
         return dataclasses.replace(self, state=state, first=cycle) if state else self
 
-    def words(self, *words: str) -> list[str]:
-        return [self.simulator, *words, *([self.state] if self.state else [])]
+    def words(self, *words: str, more: str | None = None) -> list[str]:
+        """The words of a call; behind those that are given the state, and what stands behind it."""
+        return [self.simulator, *words, *([self.state] if self.state else []), *([more] if more else [])]
 
     def looked(self, cycle: int) -> State:
         """The state as a cycle begins."""
@@ -58,18 +60,18 @@ class Run:
         with tempfile.NamedTemporaryFile("w", prefix="avrora-places-", encoding="ascii") as file:
             file.write(text_of(places))
             file.flush()
-            with self.called("watch", self.scenario, str(first), str(end), file.name) as output:
+            with self.called("watch", self.scenario, str(first), str(end), file.name, more=self.moves) as output:
                 for line in output:
                     yield change_of(line.decode("ascii"))
 
     @contextlib.contextmanager
-    def called(self, *words: str) -> Iterator[IO[bytes]]:
+    def called(self, *words: str, more: str | None = None) -> Iterator[IO[bytes]]:
         """What the simulator writes. Behind its end, raises BadInput where it refused something and CannotWork where it
         failed."""
         groups = Groups()
         with tempfile.TemporaryFile() as errors:
             streams = {"stdin": subprocess.DEVNULL, "stdout": subprocess.PIPE, "stderr": errors}
-            with groups.started(self.words(*words), cwd=self.folder, **streams) as process:
+            with groups.started(self.words(*words, more=more), cwd=self.folder, **streams) as process:
                 output = cast(IO[bytes], process.stdout)
                 yield output
                 output.close()
