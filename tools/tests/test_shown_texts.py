@@ -218,6 +218,6 @@ def test_entries_that_stand_for_themselves():
         def get_DIE_from_attribute(self, _name):
             return self
 
-    unit = variables.Unit(None)
+    unit = variables.Unit(None, frozenset([7]))
     assert unit.attribute(Entry(), "DW_AT_name") is None
-    assert variables.named(Entry()).offset == 7
+    assert unit.named(Entry()).offset == 7
