@@ -15,7 +15,7 @@ import time
 from collections.abc import Iterator, Sequence
 from typing import Any, BinaryIO, cast
 
-from avrora_tools import calling, cases, comparisons, expectations, outputs, predicates, runs
+from avrora_tools import calling, cases, comparisons, expectations, outputs, predicates, runs, scenarios
 from avrora_tools.errors import ToolError
 from avrora_tools.outputs import Ends
 from avrora_tools.runs import BROKEN, FAILED, PASSED, PROGRAM, REFUSED, SCENARIO
@@ -52,6 +52,7 @@ class Bench:
         self.images: dict[str, bytes] = {}  # that are in the folder of a run's own
         self.head: tuple[tuple[str, int], bytes] = (("", 0), b"")  # of a scenario's first epochs: their rows
         self.state_name = SWEPT_STATE
+        self.last_read: tuple[str, scenarios.Scenario | None] = ("", None)
         # For the trace of a run and for what it is compared with. They stay open, as many runs are as short as that takes.
         self.trace: io.FileIO
         self.output: io.FileIO
@@ -314,14 +315,12 @@ class Bench:
             statuses.append(status)
             return f"status {status}: {said}" if status else None
 
-        compares = comparisons.Place(place, SCENARIO, scenario, self.trace, self.output, call)
+        read = self.read(scenario)
+        compares = comparisons.Place(place, SCENARIO, scenario, self.trace, self.output, call, read)
         if index not in self.cases:
             self.cases[index] = [self.case(shipped) for shipped in check.cases]
-        window: range | None = None
-        ends: Ends | None = None
-        with contextlib.suppress(ToolError):  # whether it is a scenario the simulator says
-            window = range(*compares.read.window)
-            ends = Ends(compares.read.cycles, len(compares.read.images))
+        window = range(*read.window) if read else None
+        ends = Ends(read.cycles, len(read.images)) if read else None
         self.demand_whole(self.trace, ends, "its trace")
         failures = []
         for shipped, case in zip(check.cases, self.cases[index]):
@@ -356,6 +355,15 @@ class Bench:
         judged["hash"], judged["counts"] = outputs.looked_through(self.trace)
         judged["compared"] = compared
         return judged
+
+    def read(self, text: str) -> scenarios.Scenario | None:
+        """A scenario as the tools read it, once for runs that have the same one; None where the simulator is to say what is wrong."""
+        if self.last_read[0] != text:
+            found = None
+            with contextlib.suppress(ToolError):
+                found = scenarios.Scenario.of_text(text, "the scenario")
+            self.last_read = text, found
+        return self.last_read[1]
 
     def predicate(self, code: ShippedFile) -> predicates.Predicate:
         """The function of a file of the shipment, which is loaded once."""

@@ -33,11 +33,12 @@ class Place:
     trace: io.FileIO
     output: io.FileIO
     call: Callable[[Sequence[str], io.FileIO], str | None]
+    known: scenarios.Scenario | None = None
 
     @functools.cached_property
     def read(self) -> scenarios.Scenario:
         """The scenario as the tools read it, once for all ways."""
-        return scenarios.Scenario.of_text(self.text, "the scenario")
+        return self.known or scenarios.Scenario.of_text(self.text, "the scenario")
 
 
 class Found(NamedTuple):

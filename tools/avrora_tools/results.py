@@ -321,12 +321,9 @@ class Store:
 
     def drop_unbelieved(self) -> None:
         """What is not believed leaves the file, so that no report tells it."""
-        believes = Trust(self.trust.adopts).believes
-        bad = [row[:1] for row in self.database.execute(RECORDS.format(table="run")) if not believes(row)]
-        if bad:
-            self.patiently(
-                lambda: self.transaction(lambda: self.database.executemany("DELETE FROM run WHERE number IS ?", bad))
-            )
+        self.patiently(
+            lambda: self.transaction(lambda: stored.keep_believed(self.database, Trust(self.trust.adopts)))
+        )
 
     # ---- new results
 

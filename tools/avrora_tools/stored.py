@@ -277,10 +277,29 @@ def reading(path: str, adopts: bool = False, say: Callable[[str], None] = lambda
             raise BadInput(f"{files.shown(path)}: no results of a campaign, or of another version")
         trust = Trust(adopts)
         about = about_of(database, trust)
-        bad = [row[:1] for row in database.execute(RECORDS.format(table="run")) if not trust.believes(row)]
-        database.executemany("DELETE FROM run WHERE number IS ?", bad)
+        keep_believed(database, trust)
         database.commit()
         yield Reading(path, database, about, trust)
+
+
+def keep_believed(database: sqlite3.Connection, trust: Trust) -> None:
+    """Leaves the results alone that are believed. One whose number is damaged stands where no search by it leads, so where one is
+    bad, or they are out of order, the table is made anew."""
+    is_good, last = True, -1
+    for row in database.execute(RECORDS.format(table="run")):
+        is_good = trust.believes(row) and row[0] > last and is_good
+        last = row[0]
+    if is_good:
+        return
+    believes = Trust(trust.adopts).believes
+    database.execute("CREATE TEMP TABLE good AS SELECT * FROM run WHERE 0")
+    put = f"INSERT INTO good VALUES ({', '.join('?' * (len(NAMES) + 2))})"
+    for row in database.execute(RECORDS.format(table="run")):
+        if believes(row):
+            database.execute(put, (*row[: len(NAMES)], *row[-2:]))
+    database.execute("DELETE FROM run")
+    database.execute("INSERT OR REPLACE INTO run SELECT * FROM good")
+    database.execute("DROP TABLE good")
 
 
 def copy(folder: Folder, name: str, to: str) -> None:

@@ -26,9 +26,12 @@ def filled(path):
         store = results.Store(place)
         sitting = sittings.Sitting(campaign, sittings.Words(), b"simulator", store)
         for run in campaign.runs():
-            answer = {**runs.answer(runs.PASSED), "hash": f"{run.number:064x}", "counts": [run.number] * 5, "seconds": 0.5}
-            sitting.save(attempts.Attempt(run, sitting.digests.of(run)), answer, "a host", None)
+            sitting.save(attempts.Attempt(run, sitting.digests.of(run)), answer_to(run), "a host", None)
         store.close()
+
+
+def answer_to(run):
+    return {**runs.answer(runs.PASSED), "hash": f"{run.number:064x}", "counts": [run.number] * 5, "seconds": 0.5}
 
 
 def rows_of(path):
@@ -63,6 +66,35 @@ def test_one_bit_flips():
             assert says in (about, {}), told
             lost += len(found) < COUNT
         assert lost > 0 < refused, (lost, refused)
+
+
+def test_the_number_of_a_row():
+    """One bit of the key by which it is sought: it is told by no report, and a sitting makes the run again, which mends the file."""
+    with folder(TEXT) as path:
+        filled(path)
+        written, _ = rows_of(f"{path}/r/{results.FILE}")
+        with open(f"{path}/r/{results.FILE}", "r+b") as file:
+            content = file.read()
+            name = content.rindex(b"net latency=287")
+            place = content.rindex(b"\x82\x1e", name - 100, name)  # 286 as SQLite writes it
+            file.seek(place)
+            file.write(b"\x92")  # 2,334
+        found, _ = rows_of(f"{path}/r/{results.FILE}")
+        assert found == {number: row for number, row in written.items() if number != 286}
+        campaign = campaigns.read(f"{path}/c.toml")
+        with results.opened_folder(f"{path}/r") as place:
+            store = results.Store(place)
+            sitting = sittings.Sitting(campaign, sittings.Words(), b"simulator", store)
+            wanted = [attempt for attempt in sitting.wanted() if attempt]
+            assert 286 in [attempt.run.number for attempt in wanted]  # and others that no search finds for it
+            for attempt in wanted:
+                sitting.save(attempt, answer_to(attempt.run), "a host", None)
+            store.commit()
+            store.drop_unbelieved()
+            assert store.database.execute("PRAGMA integrity_check").fetchone() == ("ok",)
+            store.close()
+        found, _ = rows_of(f"{path}/r/{results.FILE}")
+        assert {number: row["hash"] for number, row in found.items()} == {number: row["hash"] for number, row in written.items()}
 
 
 @pytest.mark.parametrize("name", ["a\\u001b[31mred\\u0007", "a\\u202Eb"])
