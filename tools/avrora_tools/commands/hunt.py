@@ -156,7 +156,7 @@ def configure(parser: argparse.ArgumentParser) -> None:
         "--scheduler", metavar="ADDRESS", help="run on the workers of a scheduler of dask, as tcp://HOST:8786"
     )
     parser.add_argument(
-        "--timeout", type=cli.positive, default=60, metavar="S", help="seconds that a run may take (%(default)s)"
+        "--timeout", type=cli.positive, default=300, metavar="S", help="seconds that a run may take (%(default)s)"
     )
     cli.add_simulator(parser)
     parser.add_argument("scenario", metavar="SCENARIO")
