@@ -1,0 +1,162 @@
+"""Looks for what never happens in the lab: varies a scenario in the ways in which the field does, for so many minutes."""
+import argparse
+import os
+
+from avrora_tools import cases, cli, files, programs, scenarios, shipping
+from avrora_tools.commands.sweep import document_of, folder_of
+from avrora_tools.errors import BadInput, BadWords, Status
+from avrora_tools.hunting import kinds, telling
+from avrora_tools.hunting.causes import Lines
+from avrora_tools.hunting.changes import Document
+from avrora_tools.hunting.corpus import Corpus
+from avrora_tools.hunting.hunt import Hunt
+from avrora_tools.hunting.oracles import Oracle
+from avrora_tools.hunting.races import NAME as ARRIVALS
+from avrora_tools.hunting.races import Races
+from avrora_tools.hunting.smaller import OracleOf
+from avrora_tools.hunting.trials import Runner, Scenes, scenes
+from avrora_tools.sweeping.cluster import ClusterTails
+from avrora_tools.sweeping.limits import Limit
+from avrora_tools.sweeping.simulation import ProcessTails, Simulator
+from avrora_tools.sweeping.verdicts import CaseCheck, PredicateCheck, nodes_of, predicate_of
+
+SUMMARY = "varies a scenario in all ways for some minutes, and tells what breaks it"
+
+NAMES = (*kinds.NAMES, ARRIVALS)
+
+DESCRIPTION = """Varies a scenario for some minutes and tells what breaks it, by cause, each with the smallest scenario that
+still fails. In turns, and more of what finds something:
+  starts     when nodes start: at once, staggered, drawn
+  cuts       each packet of each link lost; a part of it; what is sent again too; an exchange both ways
+  inputs     bytes that arrive earlier, later and nearer to each other; with a check of yours twice or not at all
+  latencies  of links
+  losses     links lost for good or open late, nodes silent or deaf
+  pairs      two of these
+  arrivals   a byte cycle by cycle where main and the handler of USART0 RX use the same things (-e)
+Without a check of yours each node must write to USART0 by the scenario's end what it writes by --until where nothing is
+varied, in any order of lines, and nothing twice; it must not stop, nor fall silent where it sends all the time.
+--expect and --check are those of `sweep`; `run.moved` is empty.
+
+The same seed varies the same in the same order; the minutes decide how much of it. FOLDER (SCENARIO's name with .hunt)
+gets a scenario for each cause and what failed, which the next hunt tries first. docs/HUNTING.md leads through one.
+
+Status 0: nothing fails; 1: something does; 2: the words or the files are bad, or the scenario is wrong unvaried."""
+
+MINUTES = 10
+SLACK = 8  # a run goes on by this share behind the deadline, where the scenario ends with it
+
+
+def run(arguments: argparse.Namespace) -> int:
+    if arguments.expect and arguments.check:
+        raise BadWords("either --expect or --check")
+    document, until = prepared_document(arguments)
+    scenario = scenarios.Scenario.load(arguments.scenario)
+    known = programs.Programs(arguments.elf, scenario, arguments.force) if arguments.elf else None
+    corpus = Corpus(arguments.corpus or os.path.splitext(arguments.scenario)[0] + ".hunt")
+    simulator = Simulator(cli.simulator(arguments.avrora), folder_of(arguments.scenario), arguments.timeout)
+    scenes_ = scenes(document)
+    with Limit(60.0 * arguments.minutes).by_signals() as limit, tails_of(arguments, simulator, scenes_) as tails:
+        tails.is_over = limit.is_over
+        oracle_of = oracle_maker(arguments, len(scenario.images))
+        lines = Lines(tails, known)
+        lines.know(document)
+        chosen = chosen_of(arguments.only)
+        races = None
+        if chosen is None or ARRIVALS in chosen:
+            races = Races(simulator, document, until, known, arguments.jobs, limit)
+        has_check = bool(arguments.expect or arguments.check)
+        hunt = Hunt(
+            Runner(tails, scenes_), document, until, oracle_of, has_check, races, lines, limit, arguments.seed, chosen
+        )
+        if hunt.unmoved_failure:
+            raise BadInput(f"the scenario fails as it is, with nothing varied: {hunt.unmoved_failure.text}")
+        print_plan(hunt, corpus)
+        hunt.run(corpus.rounds_of(arguments.seed), corpus.failed, arguments.rounds, lambda text: print(text, flush=True))
+        telling.print_hunt(hunt, corpus, arguments.scenario, arguments.elf)
+        corpus.write(arguments.seed, hunt.rounds, hunt.failing)
+    return Status.NOT_MET if hunt.findings else limit.status(Status.GOOD)
+
+
+def print_plan(hunt: Hunt, corpus: Corpus) -> None:
+    said = len(hunt.facts.bursts)
+    print(f"{len(hunt.document['node'])} nodes, {said:,} packets said where nothing varies; deadline {hunt.until:,}, ", end="")
+    print(f"runs end at {int(hunt.document['cycles']):,}; {corpus.folder} has {len(corpus.failed):,} trials", flush=True)
+
+
+def prepared_document(arguments: argparse.Namespace) -> tuple[Document, int]:
+    """The scenario as a hunt runs it, and the deadline."""
+    document = document_of(arguments.scenario)
+    cycles = document["cycles"]
+    assert isinstance(cycles, int)
+    until = arguments.until or cycles - cycles // SLACK
+    if until > cycles:
+        raise BadInput(f"the scenario ends in cycle {cycles:,}, before {until:,}")
+    if not document.get("link") and not document.get("input"):
+        raise BadInput("the scenario has no link and no input: nothing can be varied")
+    return {**document, "version": 3, "cycles": max(cycles, until + until // SLACK), "window": [0, 0]}, until
+
+
+def tails_of(arguments: argparse.Namespace, simulator: Simulator, scenes_: Scenes) -> ProcessTails:
+    """What makes the runs: processes of this machine, or the workers of a scheduler."""
+    if not arguments.scheduler:
+        return ProcessTails(simulator, scenes_, arguments.jobs)
+    tails = ClusterTails(simulator, scenes_)
+    try:
+        tails.connect(arguments.scheduler, shipping.program(arguments.avrora))
+    except BaseException as fault:
+        tails.__exit__(type(fault), fault, None)
+        raise
+    return tails
+
+
+def oracle_maker(arguments: argparse.Namespace, count: int) -> OracleOf:
+    user: CaseCheck | PredicateCheck | None = None
+    if arguments.check:
+        user = PredicateCheck(b"", predicate_of(arguments.check), [])
+    if arguments.expect:
+        user = CaseCheck(b"", cases.read_case(arguments.expect))
+    chosen = nodes_of(count, arguments.nodes)
+
+    def oracle_of(nodes: int) -> Oracle:
+        return Oracle(chosen if nodes == count else range(nodes), user)
+
+    return oracle_of
+
+
+def chosen_of(text: str | None) -> set[str] | None:
+    if text is None:
+        return None
+    chosen = set(text.split(","))
+    if wrong := chosen - set(NAMES):
+        raise BadWords(f"--only {files.printable(','.join(sorted(wrong)))}: kinds are {', '.join(NAMES)}")
+    return chosen
+
+
+def configure(parser: argparse.ArgumentParser) -> None:
+    cli.describe(parser, DESCRIPTION, "hunt gather.toml -e gather.elf --until 2_200_000 --minutes 10")
+    parser.add_argument(
+        "-e", "--elf", action="append", default=[], metavar="ELF", help="a program, as ELF or NODES=ELF; repeat it"
+    )
+    parser.add_argument("--force", action="store_true", help="take an ELF file that is not that of the node's image")
+    parser.add_argument(
+        "--until", type=cli.positive, metavar="CYCLE", help="by when all is due; runs go on to the scenario's end"
+    )
+    parser.add_argument("--expect", metavar="CASE", help="check each run by this case of `expect`")
+    parser.add_argument("--check", metavar="FILE", help="check each run by the function check(run) of this Python file")
+    cli.add_nodes(parser)
+    parser.add_argument("--minutes", type=cli.positive, default=MINUTES, metavar="N", help="how long (%(default)s)")
+    parser.add_argument("--rounds", type=cli.positive, metavar="N", help="end after N rounds of turns")
+    parser.add_argument("--seed", type=cli.natural, default=1, metavar="N", help="by which it draws (%(default)s)")
+    parser.add_argument("--only", metavar="KINDS", help=f"these kinds alone, of {','.join(NAMES)}")
+    parser.add_argument("--corpus", metavar="FOLDER", help="where scenarios and what failed are kept")
+    parser.add_argument(
+        "--jobs", type=cli.positive, default=len(os.sched_getaffinity(0)), metavar="N", help="runs at a time (%(default)s)"
+    )
+    parser.add_argument(
+        "--scheduler", metavar="ADDRESS", help="run on the workers of a scheduler of dask, as tcp://HOST:8786"
+    )
+    parser.add_argument(
+        "--timeout", type=cli.positive, default=300, metavar="S", help="seconds that a run may take (%(default)s)"
+    )
+    cli.add_simulator(parser)
+    parser.add_argument("scenario", metavar="SCENARIO")

@@ -1,0 +1,62 @@
+"""What a hunt found and how far it came, in a folder: a later hunt tries first what failed, and goes on behind it."""
+import json
+import os
+import re
+from typing import Any
+
+from avrora_tools import files
+from avrora_tools.errors import BadInput
+from avrora_tools.hunting.changes import Trial, record_of, trial_of
+from avrora_tools.writing import Folder
+
+STATE = "hunt.json"
+FOUND = re.compile(r"found-[0-9]+(?:-right)?\.toml")
+VERSION = 1
+MOST_TRIALS = 1_000
+
+
+class Corpus:
+    """The folder of a hunt. What it has is tried anew, so it decides nothing."""
+
+    def __init__(self, folder: str) -> None:
+        self.folder = folder
+        self.rounds = 0  # that were made, of the seed
+        self.seed: int | None = None
+        self.failed: list[Trial] = []
+        path = os.path.join(folder, STATE)
+        if os.path.lexists(path):
+            self.read(path)
+
+    def read(self, path: str) -> None:
+        try:
+            found: Any = json.loads(files.read_named_text(path))
+            if found["version"] != VERSION:
+                raise BadInput(f"{files.shown(path)}: of another version of this tool")
+            self.seed, self.rounds = int(found["seed"]), int(found["rounds"])
+            self.failed = [trial_of(record) for record in found["failed"][:MOST_TRIALS]]
+        except (ValueError, KeyError, TypeError) as fault:
+            raise BadInput(f"{files.shown(path)}: no corpus of a hunt: {type(fault).__name__}") from None
+
+    def rounds_of(self, seed: int) -> int:
+        """How many rounds of a seed were made."""
+        return self.rounds if seed == self.seed else 0
+
+    def write(self, seed: int, rounds: int, failed: list[Trial]) -> None:
+        known = {json.dumps(record_of(trial), sort_keys=True): trial for trial in [*self.failed, *failed]}
+        record = {
+            "version": VERSION,
+            "seed": seed,
+            "rounds": rounds,
+            "failed": [record_of(trial) for trial in list(known.values())[:MOST_TRIALS]],
+        }
+        files.write_whole(os.path.join(self.folder, STATE), json.dumps(record, indent=1) + "\n")
+
+    def next_name(self, place: int) -> str:
+        return os.path.join(self.folder, f"found-{place}.toml")
+
+    def clear(self) -> None:
+        """Makes the folder, and removes the scenarios of an earlier hunt: they are written anew as far as they still fail."""
+        with Folder.named(self.folder, make=True) as folder:
+            for name in folder.names():
+                if FOUND.fullmatch(name):
+                    folder.remove(name)

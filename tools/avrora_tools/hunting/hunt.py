@@ -1,0 +1,171 @@
+"""A hunt: rounds in which each kind of variation has turns, more of them where it found something."""
+import random
+from collections import Counter
+from collections.abc import Callable, Iterator, Sequence
+
+from avrora_tools.hunting.causes import SMALL_OF_ONE, Finding, Lines, Look, look_of
+from avrora_tools.hunting.changes import Document, Trial
+from avrora_tools.hunting.kinds import Facts, Kind, kinds_of
+from avrora_tools.hunting.oracles import Failure, Oracle, Reference
+from avrora_tools.hunting.races import NAME as ARRIVALS
+from avrora_tools.hunting.races import Races
+from avrora_tools.hunting.said import bursts_of
+from avrora_tools.hunting.smaller import OracleOf, Scene, Smaller
+from avrora_tools.hunting.trials import Runner
+from avrora_tools.sweeping.limits import Limit
+
+LOOKING = 0.85  # the share of the time in which new trials are made; what failed is made small in the rest too
+TURN = 12  # trials of a kind in a round
+RARE = 4  # and of those kinds that seldom find something
+RARE_KINDS = ("latencies", "losses")
+MOST_FOR_FINDING = 3  # as many times a turn, where a kind found new causes of late
+
+Told = Callable[[str], None]
+
+
+class Hunt:
+    """One hunt."""
+
+    def __init__(
+        self,
+        runner: Runner,
+        document: Document,
+        until: int,
+        oracle_of: OracleOf,
+        has_check: bool,
+        races: Races | None,
+        lines: Lines,
+        limit: Limit,
+        seed: int,
+        chosen: set[str] | None = None,
+    ) -> None:
+        self.runner, self.document, self.until, self.oracle_of = runner, document, until, oracle_of
+        self.has_check, self.races, self.lines, self.limit, self.seed = has_check, races, lines, limit, seed
+        self.chosen = chosen
+        output = runner.output(document)
+        self.reference = Reference(output, until, int(document["cycles"]))
+        self.oracle: Oracle = oracle_of(len(document["node"]))
+        self.unmoved_failure = self.oracle.failure(self.reference, None, output)
+        self.facts = Facts(document, bursts_of(output, int(document.get("byte_time", 3_072))), until, has_check)
+        self.tried: Counter[str] = Counter()
+        self.failed: Counter[str] = Counter()
+        self.credit: Counter[str] = Counter()
+        self.findings: list[Finding] = []
+        self.small_of: Counter[Look] = Counter()
+        self.failing: list[Trial] = []
+        self.rounds = 0
+        self.kinds: list[Kind] = []
+
+    def run(self, first_round: int, known: Sequence[Trial], most_rounds: int | None, tell: Told) -> None:
+        """Tries what failed before, and then makes rounds until the limit."""
+        self.rounds = first_round
+        self.kinds = kinds_of(self.facts, random.Random(f"{self.seed} {first_round}"), self.chosen)
+        self.try_all(list(known), {}, tell)
+        while not self.limit.is_over(LOOKING) and (most_rounds is None or self.rounds - first_round < most_rounds):
+            self.round(self.kinds, tell)
+            self.rounds += 1
+        self.fold()
+
+    def fold(self) -> None:
+        """What was not made small is counted with a finding of the same class that needs no more than a part of it."""
+        for finding in [it for it in self.findings if it.first and it.scene and it.scene.trial == it.first]:
+            kin = [
+                other
+                for other in self.findings
+                if other is not finding and other.look[:2] == finding.look[:2] and set(other.look) < set(finding.look)
+            ]
+            if kin:
+                kin[0].kinds += finding.kinds
+                kin[0].texts += finding.texts
+                self.findings.remove(finding)
+
+    def round(self, kinds: Sequence[Kind], tell: Told) -> None:
+        by_name = {kind.name: kind for kind in kinds}
+        trials = [trial for kind in kinds for trial in self.drawn(kind)]
+        self.try_all(trials, by_name, tell)
+        self.credit = Counter({name: credit - 1 for name, credit in self.credit.items() if credit > 1})
+        if self.races and not self.limit.is_over():
+            for found in self.races.turn(random.Random(f"{self.seed} {self.rounds} {ARRIVALS}"), self.oracle, self.reference):
+                self.failed[ARRIVALS] += found.count
+                self.take_race(found, tell)
+            self.tried[ARRIVALS] = self.races.runs
+
+    def drawn(self, kind: Kind) -> Iterator[Trial]:
+        """The trials of a kind in this round, by the seed and the round alone."""
+        random_ = random.Random(f"{self.seed} {self.rounds} {kind.name}")
+        count = RARE if kind.name in RARE_KINDS else TURN
+        for _ in range(count * min(MOST_FOR_FINDING, 1 + self.credit[kind.name])):
+            if (trial := kind.draw(random_)) and trial.changes:
+                yield trial
+
+    def try_all(self, trials: Sequence[Trial], kinds: dict[str, Kind], tell: Told) -> None:
+        byte_time = self.facts.byte_time
+        fresh: list[tuple[Trial, Failure]] = []
+        for trial, output in self.runner.tried(self.document, trials):
+            self.tried[trial.kind] += 1
+            failure = self.oracle.failure(self.reference, trial, output)
+            if failure:
+                self.failed[trial.kind] += 1
+                self.failing.append(trial)
+                fresh.append((trial, failure))
+            elif trial.kind in kinds:
+                kinds[trial.kind].passed(trial, bursts_of(output, byte_time))
+        for trial, failure in fresh:
+            self.take(trial, failure, tell)
+
+    def take(self, trial: Trial, failure: Failure, tell: Told) -> None:
+        """Puts a failing trial to its cause. The first ones of a look are made small: they may have several causes."""
+        look = look_of(trial, self.document, failure)
+        kin = [finding for finding in self.findings if finding.first and raw_look(finding, self.document) == look]
+        if self.small_of[look] < SMALL_OF_ONE and not self.limit.is_over():
+            self.small_of[look] += 1
+            found = self.small(trial, failure)
+            found.note(trial.kind, failure)
+            self.merge(found, trial.kind, tell)
+        elif kin:
+            kin[0].note(trial.kind, failure)
+        else:
+            found = Finding(look, failure, Scene(self.document, self.until, trial), trial)
+            found.note(trial.kind, failure)
+            self.merge(found, trial.kind, tell)
+
+    def small(self, trial: Trial, failure: Failure) -> Finding:
+        """A finding with the smallest scenario that fails as this trial does."""
+        smaller = Smaller(self.runner, self.oracle_of, not self.has_check, self.limit.is_over)
+        scene, wrong = smaller.smaller(Scene(self.document, self.until, trial), failure)
+        look = look_of(scene.trial, scene.document, wrong)
+        alone, uneven = self.lines.otherwise(scene)
+        return Finding(look, wrong, scene, trial, lines=alone, uneven=uneven)
+
+    def merge(self, found: Finding, kind: str, tell: Told) -> None:
+        """Findings of one look whose failing runs execute the same lines are one."""
+        for finding in self.findings:
+            if finding.look == found.look and finding.apart() == found.apart():
+                finding.kinds += found.kinds
+                finding.texts += found.texts
+                if found.scene and finding.scene and found.scene.size() < finding.scene.size():
+                    finding.scene, finding.failure = found.scene, found.failure
+                return
+        self.findings.append(found)
+        self.credit[kind] += 2
+        tell(f"found after {self.runner.runs:,} runs, by {kind}: {found.failure.text}")
+
+    def take_race(self, found: Finding, tell: Told) -> None:
+        for finding in self.findings:
+            if finding.look == found.look:
+                finding.kinds += found.kinds
+                finding.texts += found.texts
+                return
+        if found.scene:
+            smaller = Smaller(self.runner, self.oracle_of, not self.has_check, self.limit.is_over)
+            if wrong := smaller.failure(found.scene):
+                found.scene, found.failure = smaller.smaller(found.scene, wrong)
+            else:
+                found.scene = None
+        self.findings.append(found)
+        tell(f"found after {self.runner.runs + (self.races.runs if self.races else 0):,} runs, by {ARRIVALS}: {found.places[0]}")
+
+
+def raw_look(finding: Finding, document: Document) -> Look:
+    assert finding.first
+    return look_of(finding.first, document, finding.failure)

@@ -1,0 +1,114 @@
+"""Whether a run of a hunt is as it should be.
+
+Without a check of the user each node must write what it writes in the run that is not varied, in any order, sooner or later:
+what is due by `until` must have come by the scenario's end, and nothing may come by `until` that is not due by then. It must
+not stop, and where it sent to the end it must not fall silent."""
+import re
+from collections import Counter
+from collections.abc import Collection
+from dataclasses import dataclass
+
+from avrora_tools.hunting.changes import Trial
+from avrora_tools.hunting.said import clashes_at, last_sends
+from avrora_tools.sweeping.rows import stops, written, written_before
+from avrora_tools.sweeping.verdicts import CaseCheck, PredicateCheck, listed
+
+LOST, DOUBLED, WRONG, STOPPED, SILENT, UNMET = "lost", "doubled", "wrong", "stopped", "silent", "not met"
+
+QUIET_SHARE = 3  # a node is silent that sends nothing in the last third, where it did
+
+
+@dataclass(frozen=True)
+class Failure:
+    """What is wrong with a run: of which class, at which node if one is known, in words; whether that node heard clashes that
+    it does not hear in the run that is not varied."""
+
+    class_: str
+    node: int | None
+    text: str
+    has_clash: bool = False
+
+    def cause(self) -> tuple[str, str]:
+        """What failures of one cause have in common, as far as it can be seen."""
+        return self.class_, "with a clash there" if self.has_clash else ""
+
+
+@dataclass(frozen=True)
+class Reference:
+    """The run that is not varied, up to the deadline and up to the end."""
+
+    output: bytes
+    until: int
+    cycles: int
+
+    def texts(self, end: int | None) -> dict[int, bytes]:
+        return written_before((self.output,), end)
+
+
+def parts_of(text: bytes, is_cut: bool) -> Counter[bytes]:
+    """The lines of a text, or its bytes where it has no lines; the last line may be cut."""
+    if b"\n" not in text:
+        return Counter(bytes([byte]) for byte in text)
+    lines = text.split(b"\n")
+    return Counter(lines[:-1] if is_cut else [line for line in lines if line])
+
+
+class Oracle:
+    """Judges runs beside the one that is not varied, or by a check of the user."""
+
+    def __init__(self, nodes: Collection[int], user: CaseCheck | PredicateCheck | None = None) -> None:
+        self.nodes, self.user = nodes, user
+
+    def failure(self, reference: Reference, trial: Trial | None, output: bytes) -> Failure | None:
+        """What is wrong with a run; of what is not varied there is no trial."""
+        stopped, due = stops((output,)), stops((reference.output,))
+        for node in sorted(stopped):
+            if stopped[node] != due.get(node):
+                return Failure(STOPPED, node, f"node {node} stopped by {stopped[node]}, and not so where nothing varies")
+        if self.user:
+            wrong = self.user.failure((), output)
+            return Failure(UNMET, None, wrong) if wrong else None
+        return self.written_otherwise(reference, trial, output) or self.fell_silent(reference, trial, output)
+
+    def written_otherwise(self, reference: Reference, trial: Trial | None, output: bytes) -> Failure | None:
+        got, got_in_time = written((output,)), written_before((output,), reference.until)
+        due, good = reference.texts(reference.until), reference.texts(None)
+        for node in sorted(set(self.nodes) & {*got, *good}):
+            more = parts_of(got_in_time.get(node, b""), True) - parts_of(good.get(node, b""), False)
+            if more:
+                class_ = DOUBLED if all(part in parts_of(good.get(node, b""), False) for part in more) else WRONG
+                text = f"node {node} wrote {listed(sorted(more.elements()))} too much"
+                return Failure(class_, node, text, has_new_clash(reference, output, node))
+            lost = parts_of(due.get(node, b""), True) - parts_of(got.get(node, b""), False)
+            if lost and not (trial and trial.lasts()):
+                text = f"node {node} did not write {listed(sorted(lost.elements()))}"
+                return Failure(LOST, node, text, has_new_clash(reference, output, node))
+        return None
+
+    def fell_silent(self, reference: Reference, trial: Trial | None, output: bytes) -> Failure | None:
+        """A node that sends to the end where nothing varies, and not in this run. A link that is lost for good may silence
+        whom it joins."""
+        concerned = {node for cut in (trial.cuts() if trial else []) for node in (cut.sender, cut.hearer)}
+        begin = reference.cycles - reference.cycles // QUIET_SHARE
+        before, now = last_sends(reference.output), last_sends(output)
+        for node in sorted(set(self.nodes) & before.keys()):
+            is_excused = trial is not None and trial.lasts() and node in concerned
+            if before[node] >= begin > now.get(node, 0) and not is_excused and is_steady(reference, node):
+                when = f"in cycle {now[node]:,}" if node in now else "never"
+                return Failure(SILENT, node, f"node {node} sends to the end where nothing varies, and here last {when}")
+        return None
+
+
+def is_steady(reference: Reference, node: int) -> bool:
+    """Whether a node sends in each tenth of the run, from its first byte on: one that answers events may have none."""
+    pattern = re.compile(rb"^(\d+) %d sent " % node, re.MULTILINE)
+    cycles = [int(cycle) for cycle in pattern.findall(reference.output)]
+    if not cycles:
+        return False
+    tenth = max(1, (reference.cycles - cycles[0]) // 10)
+    return len({(cycle - cycles[0]) // tenth for cycle in cycles} & set(range(10))) == 10
+
+
+def has_new_clash(reference: Reference, output: bytes, node: int) -> bool:
+    return clashes_at(output, node) > clashes_at(reference.output, node)
+

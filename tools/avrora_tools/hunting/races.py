@@ -1,0 +1,241 @@
+"""Sweeps arrivals of bytes where main and the handler of USART0 RX use the same things: where and when a node is there the
+simulator tells. Behind these places it sweeps drawn spans."""
+import dataclasses
+import random
+import shlex
+from collections.abc import Iterator, Mapping, Sequence
+
+from avrora_tools.errors import BadInput, BadWords
+from avrora_tools.hunting.causes import Finding
+from avrora_tools.hunting.changes import Document, Input, Trial, inputs_of
+from avrora_tools.hunting.oracles import Failure, Oracle, Reference
+from avrora_tools.hunting.smaller import Scene
+from avrora_tools.occurrences import Executions
+from avrora_tools.programs import Program, Programs
+from avrora_tools.sweeping import findings as grouping
+from avrora_tools.sweeping.events import InputByte, Move, Moved, MovedScenario, Script, Span, moved_scenario, script_of
+from avrora_tools.sweeping.limits import Limit
+from avrora_tools.sweeping.sharing import Sharing, objects_of
+from avrora_tools.sweeping.simulation import ProcessTails, Simulator
+from avrora_tools.sweeping.sweep import Options, Sweep
+
+NAME = "arrivals"
+RACE = "a race"
+HANDLER = "USART0_RX_vect"
+
+NEAR = 100  # cycles between two executions of one visit
+LONGEST = 2_000  # cycles of a visit that are swept at once
+BEFORE, BEHIND = 12, 12  # cycles that are swept about a visit
+WIDE = 3_000  # of a drawn span
+PER_PLACE = 3  # classes of each interrupted instruction that are run of a drawn span
+MOST_VISITS = 40  # of one byte
+
+
+@dataclasses.dataclass(frozen=True)
+class Visit:
+    """A node is at code between two uses of something that its handler uses too: the byte that may come then, the span,
+    the addresses."""
+
+    event: InputByte
+    first: int
+    last: int
+    addresses: frozenset[int]
+
+
+@dataclasses.dataclass(frozen=True)
+class OracleCheck:
+    """An oracle as a sweep's check."""
+
+    oracle: Oracle
+    reference: Reference
+    head: bytes
+
+    def judged(self, output: bytes) -> Failure | None:
+        return self.oracle.failure(self.reference, None, self.head + output)
+
+    def failure(self, move: Move, output: bytes) -> str | None:
+        found = self.judged(output)
+        return found.text if found else None
+
+
+class Races:
+    """The kind of a hunt that sweeps. A turn is one visit, or one drawn span."""
+
+    def __init__(
+        self, simulator: Simulator, document: Document, until: int, programs: Programs | None, jobs: int, limit: Limit
+    ) -> None:
+        self.simulator, self.document, self.until, self.jobs, self.limit = simulator, document, until, jobs, limit
+        self.programs = programs
+        self.executions = Executions(simulator, dict(document))
+        self.sharings: dict[str, Sharing] = {}
+        self.events = list(self.bytes_that_move())
+        self.waiting = self.visits()
+        self.ready: list[Visit] = []
+        self.seen: set[tuple[str, frozenset[int]]] = set()
+        self.unsayable = 0
+        self.turns = self.runs = self.places = 0
+        self.is_wide = False
+
+    def bytes_that_move(self) -> Iterator[InputByte]:
+        """Bytes behind the first of each node whose program is known; those of different images in turns. The last byte of
+        a node comes first: no other behind it hides what it does."""
+        by_image: dict[str, list[InputByte]] = {}
+        for it in inputs_of(self.document):
+            if self.programs and self.programs.of(it.node):
+                image = self.document["node"][it.node]["image"]
+                by_image.setdefault(image, []).extend(InputByte(it.node, i) for i in range(1, len(it.hex) // 2))
+        counts = {it.node: len(it.hex) // 2 for it in inputs_of(self.document)}
+        for events in by_image.values():
+            events.sort(key=lambda event: event.index - counts[event.node])
+        while any(by_image.values()):
+            for events in by_image.values():
+                if events:
+                    yield events.pop()
+
+    def sharing(self, node: int, program: Program) -> Sharing:
+        image = self.document["node"][node]["image"]
+        if image not in self.sharings:
+            listing = self.simulator.call("disasm", image).decode().splitlines()
+            self.sharings[image] = Sharing(program, listing, objects_of(program.path))
+        return self.sharings[image]
+
+    def program(self, node: int) -> Program:
+        program = self.programs.of(node) if self.programs else None
+        assert program
+        return program
+
+    def visits(self) -> Iterator[list[Visit]]:
+        """Of each byte the visits of shared code, in the run in which it never comes."""
+        for event in self.events:
+            sharing = self.sharing(event.node, self.program(event.node))
+            shared = {at for at, thing in sharing.between.items() if HANDLER in sharing.users(thing)}
+            script = script_of(self.document, event)
+            first, last = self.room(script)
+            if not shared or last <= first:
+                continue
+            executions = Executions(self.simulator, dict(without_byte(self.document, script)))
+            executions.has_watch = self.executions.has_watch
+            cycles = list(executions.cycles(event.node, sorted(shared), first, last))
+            self.executions.has_watch = executions.has_watch
+            yield list(stretches(event, cycles))[:MOST_VISITS]
+
+    def room(self, script: Script) -> tuple[int, int]:
+        """Between which cycles a byte can come: behind the one before it, and before the next, or the deadline by as
+        much as it has in the scenario."""
+        before = script.nominal(script.index - 1)
+        is_last = script.index + 1 == len(script.bytes_)
+        behind = self.until - (self.until - script.nominal(script.index)) // 2 if is_last else script.nominal(script.index + 1)
+        return before + 1, min(behind, self.until) - 1
+
+    def next_visit(self) -> Visit | None:
+        """The visit to be swept next: first those of code that was not swept yet."""
+        for visits in self.waiting:
+            self.ready += visits
+            break
+        self.ready.sort(key=self.is_known)
+        return self.ready.pop(0) if self.ready else None
+
+    def is_known(self, visit: Visit) -> bool:
+        return (self.document["node"][visit.event.node]["image"], visit.addresses) in self.seen
+
+    def turn(self, random_: random.Random, oracle: Oracle, reference: Reference) -> list[Finding]:
+        """Sweeps one visit; where there is none any more, a drawn span."""
+        visit = self.next_visit()
+        options = Options()
+        if visit is None:
+            visit = self.drawn(random_)
+            options = Options(per_place=PER_PLACE)
+            self.is_wide = True
+        if visit is None:
+            return []
+        self.seen.add((self.document["node"][visit.event.node]["image"], visit.addresses))
+        scenario = self.moved(visit)
+        if scenario is None:
+            self.unsayable += 1
+            return []
+        self.turns += 1
+        return self.swept(visit, scenario, options, oracle, reference)
+
+    def drawn(self, random_: random.Random) -> Visit | None:
+        if not self.events:
+            return None
+        event = random_.choice(self.events)
+        first, last = self.room(script_of(self.document, event))
+        if last - first < WIDE:
+            return Visit(event, first, last, frozenset()) if last > first else None
+        begin = random_.randrange(first, last - WIDE)
+        return Visit(event, begin, begin + WIDE, frozenset())
+
+    def moved(self, visit: Visit) -> MovedScenario | None:
+        """The moves of a visit: of the byte with those behind it, or alone, as a scenario or a state can say them."""
+        for is_alone in (False, True):
+            event = dataclasses.replace(visit.event, is_alone=is_alone)
+            try:
+                return moved_scenario(self.document, [Moved(event, Span(visit.first, visit.last))], None)
+            except (BadInput, BadWords):
+                continue
+        return None
+
+    def swept(
+        self, visit: Visit, scenario: MovedScenario, options: Options, oracle: Oracle, reference: Reference
+    ) -> list[Finding]:
+        program = self.program(visit.event.node)
+        sharing = self.sharing(visit.event.node, program)
+        with ProcessTails(self.simulator, scenario, self.jobs) as tails:
+            check = OracleCheck(oracle, reference, tails.head)
+            sweep = Sweep(tails, scenario, check, program, sharing, self.limit)
+            for _ in sweep.run(options):
+                pass
+            self.runs += sweep.results.runs
+            self.places += len({cell.place() for cell in sweep.results.ran})
+            return [self.finding(sweep, one, check) for one in sweep.findings()]
+
+    def finding(self, sweep: Sweep, one: grouping.Finding, check: OracleCheck) -> Finding:
+        places = grouping.lines_of(one.spots)
+        used = sweep.thing_in_use(one)
+        ends, parting = sweep.ends(one), sweep.parting(one)
+        failure = check.judged(sweep.tails.output(one.first().move())) or Failure("lost", None, "")
+        told = [f"{' and '.join(places)}" + (f"; {used}" if used else ""), *filter(None, (ends, parting))]
+        event = sweep.scenario.moved[-1].event
+        assert isinstance(event, InputByte)
+        command = sweep_command(event, grouping.spans(one.failing)[0])
+        result = Finding((RACE, failure.class_, *places), failure, places=tuple(told), command=command)
+        for cell in one.failing:
+            result.note(NAME, Failure(failure.class_, failure.node, sweep.results.failures[cell]))
+        result.scene = self.scene(event, one.first().move()[-1])
+        return result
+
+    def scene(self, event: InputByte, value: int) -> Scene | None:
+        """A scenario that says the arrival, where one can: that of a node's second byte, with none behind."""
+        it = next(it for it in inputs_of(self.document) if it.node == event.node)
+        apart = value - it.at
+        if event.index != 1 or not 1 <= apart < 65_536:
+            return None
+        kept = dataclasses.replace(it, hex=it.hex[:4])
+        trial = Trial(NAME, f"byte 1 of node {it.node} arrives at {value:,}", (Input(it.node, it.at, apart, kept.hex),))
+        return Scene(kept.applied(self.document), self.until, trial)
+
+
+def sweep_command(event: InputByte, span: tuple[int, int]) -> str:
+    """The words of a sweep about a stretch that fails."""
+    words = ["--input", f"{event.node}:{event.index}={span[0] - BEFORE}..{span[1] + BEHIND}"]
+    return shlex.join([*words, *["--alone"] * event.is_alone])
+
+
+def without_byte(document: Document, script: Script) -> Mapping[str, object]:
+    """The scenario in which a byte, and those behind it, never come."""
+    kept = script.bytes_[: script.index].hex()
+    inputs = [{**old, "hex": kept} if old["node"] == script.node else old for old in document["input"]]
+    return {**document, "input": inputs}
+
+
+def stretches(event: InputByte, cycles: Sequence[tuple[int, int]]) -> Iterator[Visit]:
+    """Executions that lie near to each other, as visits."""
+    begun = 0
+    for place in range(1, len(cycles) + 1):
+        is_long = place < len(cycles) and cycles[place][0] - cycles[begun][0] > LONGEST
+        if place == len(cycles) or is_long or cycles[place][0] - cycles[place - 1][0] > NEAR:
+            part = cycles[begun:place]
+            addresses = frozenset(address for _, address in part)
+            yield Visit(event, max(1, part[0][0] - BEFORE), part[-1][0] + BEHIND, addresses)
+            begun = place

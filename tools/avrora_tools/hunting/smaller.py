@@ -1,0 +1,171 @@
+"""Makes a failing scenario as small as it still fails in the same way: fewer changes, shorter cuts, fewer nodes, links and
+inputs, a shorter run. The scenario without the changes must be right each time."""
+import dataclasses
+import itertools
+from collections.abc import Callable, Iterator, Sequence
+from typing import TypeGuard
+
+from avrora_tools.hunting.changes import (
+    Change,
+    Cut,
+    Document,
+    Input,
+    Trial,
+    change_without_node,
+    ends_of,
+    inputs_of,
+    without_links,
+    without_node,
+)
+from avrora_tools.hunting.oracles import Failure, Oracle, Reference
+from avrora_tools.hunting.trials import Runner
+
+MOST_RUNS = 160  # for one scenario
+AT_A_TIME = 2  # scenes that are tried at a time, of two runs each
+HALVINGS = 4  # of a cut, and of the run's length
+LEAST_CYCLES = 20_000
+
+
+@dataclasses.dataclass(frozen=True)
+class Scene:
+    """A scenario, the deadline in it, and a trial that breaks it."""
+
+    document: Document
+    until: int
+    trial: Trial
+
+    def failing(self) -> Document:
+        return self.trial.applied(self.document)
+
+    def size(self) -> tuple[int, int, int, int]:
+        """Nodes, links, changes, cycles."""
+        links = self.document.get("link", [])
+        return len(self.document["node"]), len(links), len(self.trial.changes), int(self.document["cycles"])
+
+
+OracleOf = Callable[[int], Oracle]  # for a number of nodes
+
+
+class Smaller:
+    """Makes one scene smaller, by runs."""
+
+    def __init__(self, runner: Runner, oracle_of: OracleOf, may_renumber: bool, is_over: Callable[[], bool]) -> None:
+        """`may_renumber`: whether nodes may go; a check of the user knows nodes by their numbers."""
+        self.runner, self.oracle_of, self.may_renumber, self.is_over = runner, oracle_of, may_renumber, is_over
+        self.left = MOST_RUNS
+
+    def failure(self, scene: Scene) -> Failure | None:
+        return self.failures([scene])[0]
+
+    def failures(self, scenes: Sequence[Scene]) -> list[Failure | None]:
+        """How scenes fail, where they are right without their changes."""
+        self.left -= 2 * len(scenes)
+        outputs = list(self.runner.outputs([it for scene in scenes for it in (scene.document, scene.failing())]))
+        outputs += [b""] * (2 * len(scenes) - len(outputs))
+        return [self.judged(scene, *outputs[2 * i : 2 * i + 2]) for i, scene in enumerate(scenes)]
+
+    def judged(self, scene: Scene, right: bytes, failing: bytes) -> Failure | None:
+        reference = Reference(right, scene.until, int(scene.document["cycles"]))
+        oracle = self.oracle_of(len(scene.document["node"]))
+        if not right or not failing or oracle.failure(reference, None, right):
+            return None
+        return oracle.failure(reference, scene.trial, failing)
+
+    def smaller(self, scene: Scene, failure: Failure) -> tuple[Scene, Failure]:
+        """The smallest that was found, and how it fails."""
+        for step in (fewer_changes, shorter_cuts, self.fewer_nodes, fewer_links, fewer_bytes, shorter, fewer_changes):
+            scene, failure = self.stepped(scene, failure, step)
+        return scene, failure
+
+    def stepped(
+        self, scene: Scene, failure: Failure, step: Callable[[Scene], Iterator[Scene]]
+    ) -> tuple[Scene, Failure]:
+        """Takes the first smaller scene that fails in the same way, as long as there is one."""
+        tried: set[int] = set()
+        goes_on = True
+        while goes_on:
+            goes_on = False
+            waiting = iter([it for it in step(scene) if hash(repr((it.document, it.trial.changes))) not in tried])
+            while others := list(itertools.islice(waiting, AT_A_TIME)):
+                if self.left <= 0 or self.is_over():
+                    return scene, failure
+                tried.update(hash(repr((it.document, it.trial.changes))) for it in others)
+                alike = [(it, found) for it, found in zip(others, self.failures(others)) if is_alike(found, failure)]
+                if alike:
+                    (scene, failure), goes_on = alike[0], True
+                    break
+        return scene, failure
+
+    def fewer_nodes(self, scene: Scene) -> Iterator[Scene]:
+        if not self.may_renumber:
+            return
+        count = len(scene.document["node"])
+        for node in reversed(range(count if count > 1 else 0)):
+            changes = [change_without_node(change, node) for change in scene.trial.changes]
+            kept = [change for change in changes if change is not None]
+            if kept:
+                trial = scene.trial.with_changes(kept)
+                yield dataclasses.replace(scene, document=without_node(scene.document, node), trial=trial)
+
+
+def is_alike(found: Failure | None, failure: Failure) -> TypeGuard[Failure]:
+    return found is not None and found.cause() == failure.cause()
+
+
+def pieces(things: Sequence[Change]) -> Iterator[list[Change]]:
+    """What is left without a half, and without one."""
+    half = len(things) // 2
+    if half > 1:
+        yield from (list(things[:half]), list(things[half:]))
+    if len(things) > 1:
+        for place in range(len(things)):
+            yield [*things[:place], *things[place + 1 :]]
+
+
+def fewer_changes(scene: Scene) -> Iterator[Scene]:
+    for changes in pieces(scene.trial.changes):
+        yield dataclasses.replace(scene, trial=scene.trial.with_changes(changes))
+
+
+def shorter_cuts(scene: Scene) -> Iterator[Scene]:
+    """A cut that is cut in half, as long as it has more than some bytes."""
+    byte_time = int(scene.document.get("byte_time", 3_072))
+    for place, change in enumerate(scene.trial.changes):
+        if not isinstance(change, Cut) or change.is_for_good() or change.end - change.first <= 4 * byte_time:
+            continue
+        middle = (change.first + change.end) // 2
+        for first, end in ((change.first, middle), (middle, change.end)):
+            changes = list(scene.trial.changes)
+            changes[place] = dataclasses.replace(change, first=first, end=end)
+            yield dataclasses.replace(scene, trial=scene.trial.with_changes(changes))
+
+
+def fewer_links(scene: Scene) -> Iterator[Scene]:
+    links = [ends_of(link) for link in scene.document.get("link", [])]
+    needed = {(it.sender, it.hearer) for it in scene.trial.changes if not isinstance(it, Input)}
+    spare = [link for link in links if link not in needed]
+    size = max(1, len(spare) // 2)
+    while spare and size >= 1:
+        for begin in range(0, len(spare), size):
+            gone = spare[begin : begin + size]
+            yield dataclasses.replace(scene, document=without_links(scene.document, gone))
+        size //= 2
+
+
+def fewer_bytes(scene: Scene) -> Iterator[Scene]:
+    """Without the last byte that arrives at a node."""
+    changed = {change.node for change in scene.trial.changes if isinstance(change, Input)}
+    for it in inputs_of(scene.document):
+        if len(it.hex) > 2 and it.node not in changed:
+            document = dataclasses.replace(it, hex=it.hex[:-2]).applied(scene.document)
+            yield dataclasses.replace(scene, document=document)
+
+
+def shorter(scene: Scene) -> Iterator[Scene]:
+    """A run that ends earlier, with its deadline as far before its end."""
+    cycles = int(scene.document["cycles"])
+    behind = cycles - scene.until
+    for share in itertools.islice((0.4, 0.6, 0.8, 0.9), HALVINGS):
+        until = int(scene.until * share)
+        if until > LEAST_CYCLES:
+            yield dataclasses.replace(scene, document={**scene.document, "cycles": until + behind}, until=until)

@@ -1,0 +1,157 @@
+"""What a hunt tells, and the scenarios that it writes."""
+import os
+import shlex
+from collections.abc import Iterable
+
+from avrora_tools import files
+from avrora_tools.hunting.causes import Finding
+from avrora_tools.hunting.changes import Cut, Document, Input
+from avrora_tools.hunting.corpus import Corpus
+from avrora_tools.hunting.hunt import Hunt
+from avrora_tools.hunting.kinds import MOST_CUTS
+from avrora_tools.hunting.races import HANDLER
+from avrora_tools.hunting.races import NAME as ARRIVALS
+from avrora_tools.hunting.smaller import Scene
+from avrora_tools.hunting.trials import processor_seconds
+from avrora_tools.sweeping.limits import shown_time
+from avrora_tools.sweeping.simulation import scenario_text
+
+MOST_TEXTS, MOST_LINES, MOST_CHANGES = 3, 8, 6
+
+
+def print_hunt(hunt: Hunt, corpus: Corpus, scenario: str, elf: Iterable[str]) -> None:
+    """All that a hunt tells at its end; the scenarios of its findings are written."""
+    print_tried(hunt)
+    corpus.clear()
+    for number, finding in enumerate(hunt.findings, 1):
+        if finding.scene:
+            finding.path = corpus.next_name(number)
+            write_scene(finding.path, finding.scene, finding, os.path.dirname(scenario))
+        print_finding(hunt, number, finding, scenario, list(elf))
+    print(f"not covered: {'; '.join(not_covered(hunt))}", flush=True)
+
+
+def print_tried(hunt: Hunt) -> None:
+    races = hunt.races.runs if hunt.races else 0
+    seconds = hunt.limit.spent()
+    print(
+        f"{hunt.runner.runs + races:,} runs in {shown_time(seconds)} ({processor_seconds():,.0f} processor seconds), "
+        f"{hunt.rounds} rounds of seed {hunt.seed}"
+    )
+    if hunt.limit.signal is not None:
+        print(f"cut: {hunt.limit.reason()}")
+    for name in dict.fromkeys([*(kind.name for kind in hunt.kinds), ARRIVALS]):
+        if hunt.tried[name] or hunt.failed[name]:
+            print(f"  {name:<10} {hunt.tried[name]:>7,} tried {hunt.failed[name]:>6,} failed")
+
+
+def print_finding(hunt: Hunt, number: int, finding: Finding, scenario: str, elf: list[str]) -> None:
+    kinds = ", ".join(f"{name} {count:,}" for name, count in finding.kinds.most_common())
+    print(f"{number}. {finding.failure.class_}: {finding.failure.text}")
+    print(f"   met {finding.count:,} times ({kinds})" + (f"; {' '.join(finding.look[1:])}" if not finding.places else ""))
+    for text, _ in finding.texts.most_common(MOST_TEXTS):
+        if text != finding.failure.text:
+            print(f"   also: {text}")
+    for place in finding.places:
+        print(f"   {place}")
+    if finding.scene:
+        print_scene(hunt, finding.scene)
+    if finding.lines:
+        more = len(finding.lines) - MOST_LINES
+        print(f"   runs here alone: {joined(finding.lines[:MOST_LINES])}" + (f" and {more} lines more" if more > 0 else ""))
+    for pair in finding.uneven:
+        print(f"   {pair}")
+    for command in commands(finding, scenario, elf):
+        print(f"   {command}")
+
+
+def joined(lines: Iterable[str]) -> str:
+    by_file: dict[str, list[str]] = {}
+    for line in lines:
+        name, _, number = line.rpartition(":")
+        by_file.setdefault(name, []).append(number)
+    return ", ".join(f"{name}:{','.join(numbers)}" for name, numbers in by_file.items())
+
+
+def print_scene(hunt: Hunt, scene: Scene) -> None:
+    nodes, links, changes, cycles = scene.size()
+    all_nodes, all_links = len(hunt.document["node"]), len(hunt.document.get("link", []))
+    print(f"   smallest: {nodes} nodes of {all_nodes}, {links} links of {all_links}, {cycles:,} cycles, deadline {scene.until:,}")
+    for change in scene.trial.changes[:MOST_CHANGES]:
+        print(f"     {change}")
+    if changes > MOST_CHANGES:
+        print(f"     and {changes - MOST_CHANGES} changes more")
+
+
+def commands(finding: Finding, scenario: str, elf: list[str]) -> list[str]:
+    """The lines of a shell that open a finding."""
+    words = [word for it in elf for word in ("-e", it)]
+    if finding.command:
+        found = [f"avrora-tools sweep {shlex.quote(scenario)} {finding.command} {shlex.join(words)}".rstrip()]
+        if not finding.scene:
+            return found
+    else:
+        found = []
+    if not finding.scene or not finding.path:
+        return found
+    folder, name = os.path.split(finding.path)
+    at = first_cycle(finding.scene)
+    go = f"cd {shlex.quote(folder)} && "
+    right = right_name(name)
+    found.append(f"(cd {shlex.quote(folder)} && avrora run {name} >{name}.trace && avrora run {right} >{right}.trace)")
+    found.append(f"({go}avrora-tools timeline -s {name} -o {name}.html {name}.trace; avrora-tools diff {right}.trace {name}.trace)")
+    found.append(f"({go}avrora-tools gdb --port 4242 --at {at} {name})")
+    if (start := next((it for it in finding.scene.trial.changes if isinstance(it, Input)), None)) and not finding.command:
+        span = f"{max(1, start.at - 500)}..{start.at + 500}"
+        found.append(f"({go}avrora-tools sweep {name} --start {start.node}={span} --until {finding.scene.until})")
+    return found
+
+
+def first_cycle(scene: Scene) -> int:
+    """Where something is otherwise for the first time."""
+    cycles = [it.first if isinstance(it, Cut) else it.at if isinstance(it, Input) else 0 for it in scene.trial.changes]
+    return min(cycles, default=0)
+
+
+def right_name(name: str) -> str:
+    stem, ending = os.path.splitext(name)
+    return f"{stem}-right{ending}"
+
+
+def write_scene(path: str, scene: Scene, finding: Finding, folder: str) -> None:
+    """Writes the failing scenario, and the right one beside it; images are named from where they are."""
+    changes = "".join(f"# - {change}\n" for change in scene.trial.changes)
+    note = f"# {files.printable(finding.failure.text)}.\n# What is otherwise than in {os.path.basename(right_name(path))}:\n{changes}"
+    place = os.path.dirname(path)
+    files.write_whole(path, note + scenario_text(with_images(scene.failing(), folder, place)))
+    right = "# The scenario beside it, in which nothing is varied and all is right.\n"
+    files.write_whole(right_name(path), right + scenario_text(with_images(scene.document, folder, place)))
+
+
+def with_images(document: Document, folder: str, place: str) -> Document:
+    """A scenario whose images are named from another folder."""
+    nodes = [{**node, "image": os.path.relpath(os.path.join(folder, node["image"]), place)} for node in document["node"]]
+    return {**document, "node": nodes}
+
+
+def not_covered(hunt: Hunt) -> list[str]:
+    """What this hunt did not look at."""
+    missing = [f"more than {MOST_CUTS} packets in a row", "a node that is reset", "noise within a byte"]
+    if not hunt.has_check:
+        missing.append("inputs lost or doubled (no check says what is right then)")
+        missing.append("what comes late and is there at the end")
+    if hunt.races is None or not hunt.races.events:
+        missing.append("arrivals cycle by cycle (no -e, or no byte behind a node's first)")
+    else:
+        if hunt.races.unsayable:
+            missing.append(f"{hunt.races.unsayable} visits that no scenario and no state can say")
+        if not hunt.races.is_wide:
+            missing.append("arrivals elsewhere than between uses of what is shared, and not all of these")
+        missing.append(f"interrupts other than {HANDLER}")
+    cuts = next((kind for kind in hunt.kinds if kind.name == "cuts"), None)
+    left = len(getattr(cuts, "single", ()))
+    if left:
+        missing.append(f"{left:,} packets of {getattr(cuts, 'singles', 0):,}, each lost once")
+    if hunt.chosen is not None:
+        missing.append(f"all kinds but {', '.join(sorted(hunt.chosen))}")
+    return missing
