@@ -184,14 +184,14 @@ def test_conditions_that_a_run_breaks_are_told_with_who_wrote(folder, stores, st
     numbers = {"at": at, "after": at + 1, "later": at + 2}
     status, output, _ = judged(folder, statement.format(**numbers))
     assert status == 1 and said.format(**numbers) in output
-    if "reaches" not in statement:
+    if "reaches" not in statement and "2_000" not in statement:  # it was written before the span, and is not looked for
         assert f"> {at} 0 ticks: 2 -> 3 by TIMER0_COMP_vect" in output
 
 
 @pytest.mark.parametrize(
     "statements, why",
     [
-        (["always 0 tocks < 3"], "line 3: watched.elf: it has no variable `tocks`; is it `ticks`"),
+        (["always 0 tocks < 3"], "it has no variable `tocks`; is it `ticks`"),
         (["always 0 ticks >= 0"], "holds whatever the values are"),
         (["always 1 ticks < 3"], "no node 1"),
         (["always 64 ticks < 3"], "nodes are 0 to 63"),

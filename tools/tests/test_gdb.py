@@ -474,7 +474,7 @@ def test_a_watchpoint_stops_behind_each_write_and_back_before_it(folder, past):
 @needs_all
 def test_a_watchpoint_is_of_the_node_that_is_shown(folder, past):
     first = stores_of(past, 1, "ticks", folder)[0]
-    said = gdb(folder, "watch ticks", "monitor watches", "continue", "monitor cycle", node=1)
+    said = gdb(folder, "watch ticks", "continue", "monitor watches", "monitor cycle", node=1)
     assert "1 bytes from" in said and "of node 1" in said and stands(said) == [(first + 1, 1)], said
 
 
