@@ -1,11 +1,12 @@
 #!/usr/bin/env python3
-"""What the client of a campaign takes of a processor a run, with workers that take no time: milliseconds, by their count.
+"""What the client of a campaign takes of a processor a run, with workers that take no time: milliseconds, by their
+count.
 
     bench/client.py [RUNS [WORKERS...]]
 
-The workers are a mock in this process: each answers a batch as soon as it is waited for, and says that a run took 8 ms. So what is
-measured is all that the client does itself: making runs and their digests, sharing them out, judging answers, and the file of
-results. What dask takes of the client to send and to receive is not in it.
+The workers are a mock in this process: each answers a batch as soon as it is waited for, and says that a run took 8 ms.
+So what is measured is all that the client does itself: making runs and their digests, sharing them out, judging
+answers, and the file of results. What dask takes of the client to send and to receive is not in it.
 """
 import collections
 import contextlib

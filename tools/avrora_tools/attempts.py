@@ -9,9 +9,9 @@ from avrora_tools.variants import Run
 
 @dataclasses.dataclass(eq=False, slots=True)
 class Attempt:
-    """A run that is to have a result: for which time it is begun, where not to, and whether it is to be alone in its batch.
-    Some batches can have it at once: `copies` are under way, and the first answer settles it. `opinions` has the answers that
-    are compared, and `tried` on which worker it came to what before."""
+    """A run that is to have a result: for which time it is begun, where not to, and whether it is to be alone in its
+    batch. Some batches can have it at once: `copies` are under way, and the first answer settles it. `opinions` has the
+    answers that are compared, and `tried` on which worker it came to what before."""
 
     run: Run
     digest: str

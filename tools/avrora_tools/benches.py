@@ -1,8 +1,9 @@
-"""Where a run of a campaign takes place: in a process of this machine, or in one of a machine that a worker of dask is on.
+"""Where a run of a campaign takes place: in a process of this machine, or in one of a machine that a worker of dask is
+on.
 
-A worker trusts its own disk no further than it must. A trace that lacks its end rows is trouble of the worker. Before it
-answers that a run failed or is refused, and at the end of each batch, it compares all that it was sent with what its disk
-has: where that differs it is sick, and what it found since its last comparison is no answer.
+A worker trusts its own disk no further than it must. A trace that lacks its end rows is trouble of the worker. Before
+it answers that a run failed or is refused, and at the end of each batch, it compares all that it was sent with what its
+disk has: where that differs it is sick, and what it found since its last comparison is no answer.
 """
 import contextlib
 import hashlib
@@ -26,8 +27,8 @@ TRACE, OUTPUT, OWN = "trace", "output", "own"
 MOVES, SWEPT_STATE = "moves", "swept.state"  # of runs that one process makes
 WORDS_OF_ONE_STRETCH = 4  # of a line of moves
 
-# Statuses of the simulator: the scenario is refused, an image is; writing or reading failed, which is the worker's fault,
-# as all that is read came in the shipment; the memory was not enough.
+# Statuses of the simulator: the scenario is refused, an image is; writing or reading failed, which is the worker's
+# fault, as all that is read came in the shipment; the memory was not enough.
 REFUSALS = (4, 5)
 WORKER_FAULTS = (1, 3)
 MEMORY_FAULTS = (6, 9)
@@ -53,7 +54,8 @@ class Bench:
         self.head: tuple[tuple[str, int], bytes] = (("", 0), b"")  # of a scenario's first epochs: their rows
         self.state_name = SWEPT_STATE
         self.last_read: tuple[str, scenarios.Scenario | None] = ("", None)
-        # For the trace of a run and for what it is compared with. They stay open, as many runs are as short as that takes.
+        # For the trace of a run and for what it is compared with. They stay open, as many runs are as short as that
+        # takes.
         self.trace: io.FileIO
         self.output: io.FileIO
         self.files = contextlib.ExitStack()
@@ -97,8 +99,8 @@ class Bench:
                 os.chmod(path, 0o755 if name == PROGRAM else 0o644)
 
     def run_batch(self, jobs: Sequence[Job]) -> dict[str, Any]:
-        """The answers to jobs, in order. To the first of them alone where the worker became sick, and then why; or where
-        the batch takes long, as others may have nothing to do."""
+        """The answers to jobs, in order. To the first of them alone where the worker became sick, and then why; or
+        where the batch takes long, as others may have nothing to do."""
         answers: list[Answer] = []
         sick = None
         begun = time.monotonic()
@@ -133,8 +135,8 @@ class Bench:
         return None
 
     def run(self, job: Job, rows: bytes | None = None) -> Answer:
-        """Runs a job, or judges the rows that a process wrote for it beside others. Raises Sick where it is the worker that
-        cannot."""
+        """Runs a job, or judges the rows that a process wrote for it beside others. Raises Sick where it is the worker
+        that cannot."""
         start, used = time.monotonic(), self.caller.processor
         try:
             comparisons.empty(self.trace)
@@ -164,7 +166,8 @@ class Bench:
         return found
 
     def swept(self, jobs: Sequence[Job]) -> list[Answer]:
-        """Runs jobs that differ in their moves alone, by one process. Where that does not end well each is run by itself."""
+        """Runs jobs that differ in their moves alone, by one process. Where that does not end well each is run by
+        itself."""
         start, used = time.monotonic(), self.caller.processor
         try:
             rows = self.swept_rows(jobs)
@@ -199,8 +202,8 @@ class Bench:
         return pieces and [head + piece for piece in pieces]
 
     def head_of(self, scenario: str, epochs: int) -> bytes | None:
-        """The rows before the epoch in which the first byte arrives, and the state there, which stay for the jobs behind; None
-        where the simulator refuses that."""
+        """The rows before the epoch in which the first byte arrives, and the state there, which stay for the jobs
+        behind; None where the simulator refuses that."""
         if self.shipment.words[0] == "resume":  # the state is in the shipment
             self.write_scenario(self.folder, scenario)
             self.state_name = self.shipment.words[-1]
@@ -278,8 +281,8 @@ class Bench:
         return self.caller.call(f"{self.folder}/{PROGRAM}", words, place, output, seconds)
 
     def said_at_end(self, place: str, words: Sequence[str], output: io.FileIO) -> tuple[int, str]:
-        """The status of a call of the simulator, and what it said. Raises NoAnswer where that is nothing of the scenario's:
-        where another call may come to something else."""
+        """The status of a call of the simulator, and what it said. Raises NoAnswer where that is nothing of the
+        scenario's: where another call may come to something else."""
         try:
             status, said = self.call(place, words, output, self.shipment.timeout)
         except calling.TooLong:
@@ -304,8 +307,8 @@ class Bench:
             return end.answer
 
     def checked(self, job: Job, place: str) -> Answer:
-        """Shows all cases the trace of a job, compares it in all ways, and gives it to the function; the first failure of each is
-        told."""
+        """Shows all cases the trace of a job, compares it in all ways, and gives it to the function; the first failure
+        of each is told."""
         index, scenario = job.check, job.scenario
         check = self.shipment.checks[index]
         statuses: list[int] = []  # of the calls by which the run is compared
@@ -357,7 +360,8 @@ class Bench:
         return judged
 
     def read(self, text: str) -> scenarios.Scenario | None:
-        """A scenario as the tools read it, once for runs that have the same one; None where the simulator is to say what is wrong."""
+        """A scenario as the tools read it, once for runs that have the same one; None where the simulator is to say
+        what is wrong."""
         if self.last_read[0] != text:
             found = None
             with contextlib.suppress(ToolError):

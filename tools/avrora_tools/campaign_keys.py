@@ -1,4 +1,5 @@
-"""What the file of a campaign may say: the keys of each of its tables, and of each what a value is, in words and as a check.
+"""What the file of a campaign may say: the keys of each of its tables, and of each what a value is, in words and as a
+check.
 
 CAMPAIGNS.md has the same tables for who writes such a file; a test compares them.
 """
@@ -75,7 +76,9 @@ def is_inputs(value: Any) -> bool:
 
 
 def are_ways(value: Any) -> bool:
-    return isinstance(value, list) and bool(value) and all(isinstance(way, str) and way in comparisons.WAYS for way in value)
+    if not isinstance(value, list) or not value:
+        return False
+    return all(isinstance(way, str) and way in comparisons.WAYS for way in value)
 
 
 LAST_CYCLE = scenarios.MAX_CYCLES[3]
@@ -84,7 +87,9 @@ LEAST_TIME, MOST_TIME = scenarios.BYTE_TIME.start, scenarios.BYTE_TIME.stop - 1
 SEEDS = 2**63 - 1  # the greatest whole number of TOML
 
 TOP: Mapping[str, Key] = {
-    "name": Key("letters, digits and _ . + -", lambda value: isinstance(value, str) and re.fullmatch(r"[\w.+-]+", value)),
+    "name": Key(
+        "letters, digits and _ . + -", lambda value: isinstance(value, str) and re.fullmatch(r"[\w.+-]+", value)
+    ),
     "results": Key("a folder", is_text),
     "attempts": number(1, 100, 3),
     "timeout": number(1, 1_000_000, 600, " seconds"),

@@ -45,7 +45,8 @@ class Shard:
 
 @dataclasses.dataclass(frozen=True)
 class Campaign:
-    """The whole file. `checks` are those by which runs are checked, `files` the content of each file of the shipment."""
+    """The whole file. `checks` are those by which runs are checked, `files` the content of each file of the
+    shipment."""
 
     path: str
     name: str
@@ -99,7 +100,8 @@ class Campaign:
             group.prepare()
 
     def demand_checks(self, allowed: bool) -> None:
-        """Loads the code by which runs are checked, where the user allows it, so that what is wrong with it is told at once."""
+        """Loads the code by which runs are checked, where the user allows it, so that what is wrong with it is told at
+        once."""
         for code in dict.fromkeys(check.code for check in self.checks if check.code):
             path = os.path.join(self.folder, code.path)
             demand(allowed, self.path, "check", path)

@@ -1,5 +1,5 @@
-"""What takes a campaign to the workers of dask: each of them gets this package and the shipment, and starts a process that works as
-one of this machine does.
+"""What takes a campaign to the workers of dask: each of them gets this package and the shipment, and starts a process
+that works as one of this machine does.
 
 So a worker needs dask and nothing of this repository, and its own process is free for dask while runs take place.
 """
@@ -45,8 +45,8 @@ def for_dask(name: str, shipment: Shipment) -> tuple[Any, Any, Any]:
     tick, silent_seconds, arrival_seconds = local_worker.TICK, local_worker.SILENT_SECONDS, ARRIVAL_SECONDS
 
     class Carrier(WorkerPlugin):  # type: ignore[misc]  # a local class, which is always pickled by value
-        """Has a process work in a folder where the worker has its files. Nothing is written before the worker proves itself,
-        so that what fails is told as its reason."""
+        """Has a process work in a folder where the worker has its files. Nothing is written before the worker proves
+        itself, so that what fails is told as its reason."""
 
         def __init__(self) -> None:
             self.name = name
@@ -127,7 +127,8 @@ def for_dask(name: str, shipment: Shipment) -> tuple[Any, Any, Any]:
                 except RuntimeError as fault:
                     return [socket.gethostname(), str(fault)]
                 except OSError as fault:
-                    return [socket.gethostname(), f"{fault.filename}: {fault.strerror}" if fault.filename else str(fault)]
+                    reason = f"{fault.filename}: {fault.strerror}" if fault.filename else str(fault)
+                    return [socket.gethostname(), reason]
 
         def run_batch(self, jobs: Any) -> Any:
             with self.lock:
@@ -150,9 +151,9 @@ def for_dask(name: str, shipment: Shipment) -> tuple[Any, Any, Any]:
 
 
 def on_scheduler() -> tuple[Any, Any]:
-    """Two functions to call on the scheduler, which has nothing of this package: one gives a plugin to all workers, those that
-    come later too, one takes the plugins away whose names begin alike. Neither waits for a worker: dask's own ways end where
-    a single one does not answer."""
+    """Two functions to call on the scheduler, which has nothing of this package: one gives a plugin to all workers,
+    those that come later too, one takes the plugins away whose names begin alike. Neither waits for a worker: dask's
+    own ways end where a single one does not answer."""
 
     def tell(dask_scheduler: Any, **message: Any) -> None:
         import asyncio

@@ -1,5 +1,5 @@
-"""What files of results are of: of which campaign and which parts of it, and how many results are of another version than the
-campaign is now. And the parts of a campaign made one."""
+"""What files of results are of: of which campaign and which parts of it, and how many results are of another version
+than the campaign is now. And the parts of a campaign made one."""
 import contextlib
 import dataclasses
 import os
@@ -34,8 +34,8 @@ class Coverage:
 
 
 def covered(readings: Sequence[Reading], is_asked: bool) -> Coverage:
-    """Of files that are told as one; where the user asked for one part alone (`is_asked`) no other one lacks. Raises BadInput
-    where they are not of one campaign, or a part is there twice."""
+    """Of files that are told as one; where the user asked for one part alone (`is_asked`) no other one lacks. Raises
+    BadInput where they are not of one campaign, or a part is there twice."""
     found = Coverage([])
     for reading in readings:
         told = reading.trust.told()
@@ -46,13 +46,15 @@ def covered(readings: Sequence[Reading], is_asked: bool) -> Coverage:
         found.is_whole = False
         if len(readings) > 1:
             lost = next(reading for reading in readings if not reading.about)
-            raise BadInput(f"{files.shown(lost.path)}: what it says of itself is not believed, so it is told with no other file")
+            path = files.shown(lost.path)
+            raise BadInput(f"{path}: what it says of itself is not believed, so it is told with no other file")
         return found
     parts: dict[int, Reading] = {}
     for reading in known:
         first, shard = known[0], shard_of(reading)
         if reading.about.get("campaign") != first.about.get("campaign"):
-            raise BadInput(f"{files.shown(reading.path)} is of another campaign than {files.shown(first.path)}, or of other files")
+            one, other = files.shown(reading.path), files.shown(first.path)
+            raise BadInput(f"{one} is of another campaign than {other}, or of other files")
         if shard.count != shard_of(first).count:
             raise BadInput(f"{files.shown(reading.path)} is a part of another division than {files.shown(first.path)}")
         if shard.number in parts:
@@ -80,7 +82,8 @@ def tell_lacking(found: Coverage, parts: dict[int, Reading], first: Reading) -> 
 
 
 def of_other_versions(reading: Reading, campaign: Campaign | None, simulator: str | None) -> int:
-    """How many results of a file are of another version: than the campaign is now; without it, than the last sitting."""
+    """How many results of a file are of another version: than the campaign is now; without it, than the last
+    sitting."""
     if campaign is None:
         return count_of_earlier(reading)
     recorded, generation = reading.about.get("inputs"), reading.about.get("generation")
@@ -114,7 +117,9 @@ def count_of_earlier(reading: Reading) -> int:
     return int(reading.database.execute(query).fetchone()[0])
 
 
-def tell_versions(found: Coverage, readings: Iterable[Reading], campaign: Campaign | None, simulator: str | None) -> None:
+def tell_versions(
+    found: Coverage, readings: Iterable[Reading], campaign: Campaign | None, simulator: str | None
+) -> None:
     count = sum(of_other_versions(reading, campaign, simulator) for reading in readings)
     if count:
         other = "the campaign's files, the program or the checker are now" if campaign else "the last sitting was by"
@@ -138,15 +143,17 @@ def shards_in(folder: str) -> list[str]:
 def merge(
     campaign: Campaign, store: results.Store, paths: Sequence[str], adopts: bool, say: Callable[[str], None]
 ) -> tuple[int, list[str]]:
-    """Takes the results of parts over into the results of the whole campaign: how many, and what is not as it should be. What the
-    campaign has already, of the same version, stays. Raises BadInput where a file is of another campaign."""
+    """Takes the results of parts over into the results of the whole campaign: how many, and what is not as it should
+    be. What the campaign has already, of the same version, stays. Raises BadInput where a file is of another
+    campaign."""
     count = 0
     with contextlib.ExitStack() as stack:
         readings = [stack.enter_context(results.reading(path, adopts, say)) for path in paths]
         told = covered(readings, False).told
         for reading in readings:
             if reading.about.get("campaign") != campaign.signature:
-                raise BadInput(f"{files.shown(reading.path)}: of another campaign than {campaign.path}, or of other files")
+                path = files.shown(reading.path)
+                raise BadInput(f"{path}: of another campaign than {campaign.path}, or of other files")
         for reading in readings:
             with Folder.above(reading.path) as folder:
                 count += merged(store, reading, folder)

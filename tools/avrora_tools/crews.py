@@ -1,5 +1,5 @@
-"""The workers of one sitting of a campaign: who has proved himself, how many batches each has, on which machine it is, and
-what it did."""
+"""The workers of one sitting of a campaign: who has proved himself, how many batches each has, on which machine it is,
+and what it did."""
 import collections
 from collections.abc import Callable
 
@@ -15,7 +15,8 @@ class Crew:
     def __init__(self, clock: Callable[[], float]) -> None:
         self.clock = clock
         self.workers: dict[Worker, None] = {}  # all that proved themselves
-        self.rooms: list[dict[Worker, None]] = [{} for _ in range(BATCHES_A_WORKER)]  # of these, by how many batches they have
+        # Of these, by how many batches they have.
+        self.rooms: list[dict[Worker, None]] = [{} for _ in range(BATCHES_A_WORKER)]
         self.machines: collections.Counter[str] = collections.Counter()
         self.tallies: dict[str, Tally] = {}
 

@@ -35,8 +35,8 @@ class DaskWorker(Worker):
 
 
 class DaskPool:
-    """Each batch goes to a worker that the campaign chose, so it is known who has what, and who is not to have anything. What
-    all workers get goes out by the scheduler, and none of them is waited for."""
+    """Each batch goes to a worker that the campaign chose, so it is known who has what, and who is not to have
+    anything. What all workers get goes out by the scheduler, and none of them is waited for."""
 
     def __init__(self, address: str, shipment: runs.Shipment, results: str) -> None:
         """`results` is the folder that the campaign alone works in."""

@@ -1,8 +1,8 @@
 """Networks that a function of the user draws, each by its number, with images of their own.
 
-The function is code, so it is loaded only where the command line allows it. What it reads decides what it draws: all files and
-listings of folders that Python opens in it are recorded with their content, so that a result is kept only while they are as
-they were.
+The function is code, so it is loaded only where the command line allows it. What it reads decides what it draws: all
+files and listings of folders that Python opens in it are recorded with their content, so that a result is kept only
+while they are as they were.
 """
 import functools
 import hashlib
@@ -105,7 +105,8 @@ def record(codes: Sequence[Code]) -> str:
     """What all of them have read, as a text."""
     if any(code.is_open_ended for code in codes):
         return ANEW
-    return json.dumps({name: content for code in codes for name, content in sorted(code.inputs.items())}, sort_keys=True)
+    inputs = {name: content for code in codes for name, content in code.inputs.items()}
+    return json.dumps(inputs, sort_keys=True)
 
 
 def is_as_recorded(text: str, folder: str) -> bool:
@@ -161,8 +162,8 @@ class DrawnGroup(Group):
         return json.dumps([text, contents])
 
     def base(self) -> Any:
-        """What decides what the function draws, as far as that is known before it is loaded: Python, and the modules and
-        images of its folder."""
+        """What decides what the function draws, as far as that is known before it is loaded: Python, and the modules
+        and images of its folder."""
         folder = os.path.dirname(os.path.abspath(self.code.path))
         names = sorted(name for name in os.listdir(folder) if name.endswith((".py", ".hex")))
         return [sys.version, [[name, content_of(os.path.join(folder, name))] for name in names]]

@@ -40,8 +40,8 @@ Wanted = Callable[[], Iterator[Attempt | None] | None]
 
 
 class Driver:
-    """One sitting of a campaign. At no time it has more runs at hand than a few batches for each worker; what it does for a
-    run does not depend on how many workers there are."""
+    """One sitting of a campaign. At no time it has more runs at hand than a few batches for each worker; what it does
+    for a run does not depend on how many workers there are."""
 
     def __init__(
         self,
@@ -136,8 +136,8 @@ class Driver:
         return self.progress.left - self.runs_under_way
 
     def depth(self) -> int:
-        """How many batches a worker has at once. A second one waits for the first, so that a worker of many short runs has
-        no pause; where runs are long or few are left none waits behind another while a worker has nothing to do."""
+        """How many batches a worker has at once. A second one waits for the first, so that a worker of many short runs
+        has no pause; where runs are long or few are left none waits behind another while a worker has nothing to do."""
         enough = BATCHES_A_WORKER * len(self.crew) * self.by_time()
         return BATCHES_A_WORKER if self.by_time() > 1 and self.left() >= enough else 1
 
@@ -171,8 +171,8 @@ class Driver:
         return found
 
     def may_have(self, worker: Worker, attempt: Attempt) -> bool:
-        """Whether a worker may get a run that is begun again: no worker that it is to avoid, and of another machine where
-        there is one, as long as there is hope of that."""
+        """Whether a worker may get a run that is begun again: no worker that it is to avoid, and of another machine
+        where there is one, as long as there is hope of that."""
         if not attempt.avoid:
             return True
         if len(self.crew) == 1:  # nobody confirms himself where others may yet come
@@ -254,8 +254,8 @@ class Driver:
         return batch.attempts
 
     def lost(self, event: pools.Lost) -> None:
-        """Of the batches that a worker had it had begun the first alone. Where that is of several runs they are begun again
-        run by run, which counts for none of them: it is not known which of them took the worker."""
+        """Of the batches that a worker had it had begun the first alone. Where that is of several runs they are begun
+        again run by run, which counts for none of them: it is not known which of them took the worker."""
         self.crew.drop(event.worker)
         self.progress.say(f"the worker {printable(event.worker.name)}: {printable(event.reason)}")
         for place, ticket in enumerate(event.tickets):
@@ -284,17 +284,19 @@ class Driver:
         self.tell_aside(worker, reason)
 
     def look(self) -> None:
-        """Sets those aside whose answers are overdue: a worker gives back what it does not come to. What waits in vain for a
-        second opinion is made here."""
+        """Sets those aside whose answers are overdue: a worker gives back what it does not come to. What waits in vain
+        for a second opinion is made here."""
         now = self.clock()
         if self.is_at_end or self.left() <= len(self.again):
-            for attempt in [it for it in self.again if it.opinions and not it.is_settled and now - it.since > OTHER_SECONDS]:
+            doubtful = [it for it in self.again if it.opinions and not it.is_settled]
+            for attempt in [it for it in doubtful if now - it.since > OTHER_SECONDS]:
                 self.judge.decide(attempt)
         overdue = runs.SECONDS_A_BATCH + self.longest + GRACE_SECONDS
         for batch in list(self.under_way.values()):
             behind = BATCHES_A_WORKER if len(batch.worker.tickets) > 1 else 1
             if now - batch.sent > behind * overdue and batch.worker in self.crew:
-                self.set_aside(batch.worker, f"no answer to a batch of {len(batch.attempts)} runs in {now - batch.sent:.0f} s")
+                seconds = now - batch.sent
+                self.set_aside(batch.worker, f"no answer to a batch of {len(batch.attempts)} runs in {seconds:.0f} s")
 
     # ---- what came
 

@@ -1,8 +1,8 @@
 """What is believed of the answers of workers.
 
-No worker is believed alone where that decides something. A run that is not passed is made again on another worker, and so is
-one in a hundred of those that passed. Where two differ a third one decides, or this process where there is none; who was
-wrong is set aside, and what it came to by itself is begun again.
+No worker is believed alone where that decides something. A run that is not passed is made again on another worker, and
+so is one in a hundred of those that passed. Where two differ a third one decides, or this process where there is none;
+who was wrong is set aside, and what it came to by itself is begun again.
 """
 import collections
 import random
@@ -119,7 +119,8 @@ class Judge:
         attempt.tried = [*(attempt.tried or []), (worker.name, first_line(what))]
 
     def wants_second(self, answer: runs.Answer, worker: Worker) -> bool:
-        """Whether another worker is to say what it comes to: where a run is not passed, and of a hundred that are once."""
+        """Whether another worker is to say what it comes to: where a run is not passed, and of a hundred that are
+        once."""
         if answer["outcome"] != runs.PASSED:
             return True
         until = self.until_sample.get(worker)
@@ -129,8 +130,8 @@ class Judge:
         return until == 1
 
     def next_gap(self) -> int:
-        """How many runs go by up to the next that is made again: as many as `sample` on the average, and drawn, so that no lie that
-        comes each so many runs goes by."""
+        """How many runs go by up to the next that is made again: as many as `sample` on the average, and drawn, so that
+        no lie that comes each so many runs goes by."""
         return random.randint(1, 2 * self.sample - 1)
 
     def weigh(self, attempt: Attempt, answer: runs.Answer, worker: Worker) -> None:
@@ -143,7 +144,8 @@ class Judge:
         if len(same) > 1:
             self.agreed(attempt, answer, same)
             return
-        is_other = any(all(it is not known for known, _ in opinions) for it in self.crew.workers) or self.shares.hopes_for_others()
+        asked = [known for known, _ in opinions]
+        is_other = any(it not in asked for it in self.crew.workers) or self.shares.hopes_for_others()
         if len(opinions) == 1 and not self.arbiter:
             is_other = True  # the same one, where there is no other
         if is_other and len(opinions) < MOST_OPINIONS:
@@ -210,7 +212,9 @@ class Judge:
             name = printable(worker.name)
             self.progress.say(f"{dropped.total()} results that {name} came to by itself are begun again")
 
-    def settle(self, attempt: Attempt, answer: runs.Answer, worker: Worker | None, second: "Worker | Own | None") -> None:
+    def settle(
+        self, attempt: Attempt, answer: runs.Answer, worker: Worker | None, second: "Worker | Own | None"
+    ) -> None:
         attempt.is_settled = True
         self.progress.count(answer["outcome"])
         name = worker.name if worker else second.name if second else ""

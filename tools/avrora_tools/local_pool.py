@@ -93,7 +93,8 @@ class LocalPool:
         return events + self.silent()
 
     def silent(self) -> list[Event]:
-        """Ends those that gave no sign for long, while this process looked: where that stood still itself, they did not."""
+        """Ends those that gave no sign for long, while this process looked: where that stood still itself, they did
+        not."""
         now = time.monotonic()
         stood_still = now - self.waited > local_worker.SECONDS_A_TICK
         self.waited = now

@@ -91,8 +91,8 @@ def main(words: Sequence[str] | None = None) -> NoReturn:
 
 
 def hear_interrupts() -> None:
-    """From here on ^C raises KeyboardInterrupt, and so does one that came before: `entry` and ./avrora-tools keep it until
-    now. One that comes where nothing can be raised, as in a callback, comes again a little later."""
+    """From here on ^C raises KeyboardInterrupt, and so does one that came before: `entry` and ./avrora-tools keep it
+    until now. One that comes where nothing can be raised, as in a callback, comes again a little later."""
 
     def again(unraisable: "sys.UnraisableHookArgs") -> None:
         if issubclass(unraisable.exc_type, KeyboardInterrupt):

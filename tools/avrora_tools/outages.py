@@ -1,6 +1,7 @@
 """Keys of a campaign that close links for a while: `link.A-B.outage`, `node.K.outage` and `node.K.silent`.
 
-A scenario has no such keys: it says when a link is open. So an outage is written as the cycles of `open` without its own.
+A scenario has no such keys: it says when a link is open. So an outage is written as the cycles of `open` without its
+own.
 """
 import dataclasses
 import re
@@ -33,8 +34,8 @@ def is_outage(key: str) -> bool:
 
 @dataclasses.dataclass(frozen=True)
 class Cut:
-    """Stands in a template for the cycles in which a link is open: `base` without what the values of these axes close. `slot` is
-    the index of its text behind those of the axes."""
+    """Stands in a template for the cycles in which a link is open: `base` without what the values of these axes close.
+    `slot` is the index of its text behind those of the axes."""
 
     slot: int
     base: tuple[Span, ...]
@@ -74,17 +75,20 @@ def is_meant(match: "re.Match[str]", link: Table) -> bool:
 
 
 def are_spans(value: Any) -> bool:
-    return isinstance(value, list) and bool(value) and all(is_pair(span, 0, LAST_CYCLE) and span[0] < span[1] for span in value)
+    if not isinstance(value, list) or not value:
+        return False
+    return all(is_pair(span, 0, LAST_CYCLE) and span[0] < span[1] for span in value)
 
 
 def closed(place: str, axis: Any, value: Any) -> list[Span]:
-    """The cycles that a value of an outage means: a start, with the length of all; a span; or some. Raises BadInput where it
-    means none."""
+    """The cycles that a value of an outage means: a start, with the length of all; a span; or some. Raises BadInput
+    where it means none."""
     if axis.length and type(value) is int and 0 <= value < LAST_CYCLE:
         return [(value, min(value + axis.length, LAST_CYCLE))]
     spans = [value] if isinstance(value, list) and value and type(value[0]) is int else value
     if axis.length or not are_spans(spans):
-        raise BadInput(f"{place}: {axis.key} is not a span such as [10_000, 40_720], a list of spans, or a range with a length")
+        forms = "a span such as [10_000, 40_720], a list of spans, or a range with a length"
+        raise BadInput(f"{place}: {axis.key} is not {forms}")
     return [(first, end) for first, end in spans]
 
 

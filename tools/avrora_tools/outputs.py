@@ -1,4 +1,5 @@
-"""What the simulator wrote in a run of a campaign: whether it is whole, its hash and counts, and what is handed back of it."""
+"""What the simulator wrote in a run of a campaign: whether it is whole, its hash and counts, and what is handed back of
+it."""
 import gzip
 import hashlib
 import io
@@ -29,7 +30,8 @@ class Ends(NamedTuple):
 
 
 def is_whole(trace: io.FileIO, ends: Ends | None) -> bool:
-    """Whether a trace ends with a row for the end of each node, in order; where these are not known, of all up to one."""
+    """Whether a trace ends with a row for the end of each node, in order; where these are not known, of all up to
+    one."""
     size = os.fstat(trace.fileno()).st_size
     start = max(0, size - TAIL)
     *rows, rest = os.pread(trace.fileno(), size - start, start).split(b"\n")
@@ -61,8 +63,8 @@ def swept_pieces(output: bytes) -> list[bytes]:
 
 
 def looked_through(trace: io.FileIO) -> tuple[str, list[int]]:
-    """The hash of a trace, and how many rows of each kind it has, in the order of `runs.COUNTS`; of those that heard, how many
-    heard one byte, and how many a clash."""
+    """The hash of a trace, and how many rows of each kind it has, in the order of `runs.COUNTS`; of those that heard,
+    how many heard one byte, and how many a clash."""
     trace.seek(0)
     found, counts = hashlib.sha256(), [0] * len(TELLING)
     # Whole rows: in them each of these texts stands for a kind alone, as the text of an instruction has none of them.

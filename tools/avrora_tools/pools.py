@@ -15,7 +15,8 @@ from avrora_tools import runs, terminal
 
 @dataclasses.dataclass(eq=False)
 class Worker:
-    """A worker: its name tells a person where it is. `tickets` are those of the batches that it has, the oldest first."""
+    """A worker: its name tells a person where it is. `tickets` are those of the batches that it has, the oldest
+    first."""
 
     name: str
     is_proved: bool = False

@@ -1,7 +1,8 @@
-"""A function `check` of a Python file of the user, as `sweep --check` has it, over the whole trace of a run of a campaign.
+"""A function `check` of a Python file of the user, as `sweep --check` has it, over the whole trace of a run of a
+campaign.
 
-It is code, so it is loaded only where the command line allows it. A worker gets the file and nothing beside it, so what decides a
-result must stand in it: one that reads other files is refused.
+It is code, so it is loaded only where the command line allows it. A worker gets the file and nothing beside it, so what
+decides a result must stand in it: one that reads other files is refused.
 """
 import contextlib
 import os
@@ -63,6 +64,8 @@ class Predicate:
         recorder.opened.clear()
         recorder.listed.clear()
         if others:
-            raise BadInput(f"{shown(self.file)}: it reads {printable(others[0])}, which no worker was sent: put it into this file")
+            other = printable(others[0])
+            raise BadInput(f"{shown(self.file)}: it reads {other}, which no worker was sent: put it into this file")
         if recorder.is_open_ended:
-            raise BadInput(f"{shown(self.file)}: it starts a program or uses the network, and must come to the same each time")
+            path = shown(self.file)
+            raise BadInput(f"{path}: it starts a program or uses the network, and must come to the same each time")

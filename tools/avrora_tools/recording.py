@@ -8,7 +8,9 @@ from collections.abc import Iterator
 from typing import Any, ClassVar
 
 # What leaves this process, or comes from elsewhere: no record of files says what that gives.
-OPEN_ENDED = ("subprocess.Popen", "os.system", "os.exec", "os.posix_spawn", "os.fork", "socket.connect", "urllib.Request")
+OPEN_ENDED = (
+    "subprocess.Popen", "os.system", "os.exec", "os.posix_spawn", "os.fork", "socket.connect", "urllib.Request"
+)  # fmt: skip
 LISTINGS = ("os.listdir", "os.scandir")
 
 # Python's own modules, which its version stands for.

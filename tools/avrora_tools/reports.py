@@ -31,7 +31,11 @@ class Report:
     """The results of one file, or of several shards of a campaign, in some order."""
 
     def __init__(
-        self, databases: Sequence[sqlite3.Connection], by: str | None = None, reverse: bool = False, top: int | None = None
+        self,
+        databases: Sequence[sqlite3.Connection],
+        by: str | None = None,
+        reverse: bool = False,
+        top: int | None = None,
     ) -> None:
         self.databases, self.top, self.reverse = databases, top, reverse
         self.by = by
@@ -175,7 +179,8 @@ class Report:
         writer.endDocument()
 
     def write_parquet(self, path: str) -> None:
-        """A table for pyarrow and what reads its files: the parameters and what was compared are columns of text in JSON."""
+        """A table for pyarrow and what reads its files: the parameters and what was compared are columns of text in
+        JSON."""
         try:
             import pyarrow
             import pyarrow.parquet

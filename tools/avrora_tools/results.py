@@ -19,7 +19,9 @@ from avrora_tools.stored import COLUMNS, FILE, NAMES, OF_RECORD, RECORDS, Trust,
 from avrora_tools.variants import Run
 from avrora_tools.writing import Folder
 
-__all__ = ["COLUMNS", "FILE", "Store", "Trust", "locked", "opened_folder", "reading", "reported", "rows", "write_images"]
+__all__ = [
+    "COLUMNS", "FILE", "Store", "Trust", "locked", "opened_folder", "reading", "reported", "rows", "write_images"
+]  # fmt: skip
 
 COMMIT_SECONDS = 1.0  # between two transactions
 MOST_WAITING = 20_000  # results that wait for a file that another program has
@@ -71,8 +73,8 @@ def locked(folder: Folder) -> Iterator[None]:
 
 
 def opened_folder(place: "str | tuple[str, str]", make: bool = False) -> Folder:
-    """The folder of results: one that the user named; or of a campaign, by its folder and a name from its file, which leads
-    nowhere else."""
+    """The folder of results: one that the user named; or of a campaign, by its folder and a name from its file, which
+    leads nowhere else."""
     if isinstance(place, str):
         return Folder.named(place, make)
     top, name = place
@@ -81,8 +83,8 @@ def opened_folder(place: "str | tuple[str, str]", make: bool = False) -> Folder:
 
 
 class Store:
-    """The folder of results, for the campaign that works in it. Results are kept back, and written in transactions, so that a
-    program which has the file for itself holds nothing up."""
+    """The folder of results, for the campaign that works in it. Results are kept back, and written in transactions, so
+    that a program which has the file for itself holds nothing up."""
 
     def __init__(
         self, folder: Folder, anew: bool = False, adopts: bool = False, say: Callable[[str], None] = terminal.say
@@ -221,8 +223,8 @@ class Store:
 
     def arrange(self, signature: str, wanted: Iterable[Run]) -> Moved:
         """Puts the results of runs aside that are no more in the campaign, takes those back that are in it again, and
-        numbers all as they stand there now. The signature is that of the runs: where it is that of before all stand as they
-        stood."""
+        numbers all as they stand there now. The signature is that of the runs: where it is that of before all stand as
+        they stood."""
         if self.is_empty or self.about("signature") == signature:
             return Moved(0, 0)
         names = {str(name) for (name,) in self.database.execute("SELECT name FROM run UNION SELECT name FROM aside")}
@@ -302,7 +304,8 @@ class Store:
         """Notes a sitting: its key."""
         began = time.strftime("%Y-%m-%dT%H:%M:%SZ", time.gmtime())
         cursor = self.database.execute(
-            "INSERT INTO sitting (identity, program, checker, host, began) VALUES (?, ?, ?, ?, ?)", (*words, host, began)
+            "INSERT INTO sitting (identity, program, checker, host, began) VALUES (?, ?, ?, ?, ?)",
+            (*words, host, began),
         )
         return cursor.lastrowid or 0
 

@@ -1,17 +1,17 @@
 """What a worker of a campaign gets, and what it answers.
 
-A worker gets the simulator, the images and the cases once, as a shipment, and then batches of jobs. A job is the text of
-a scenario, whose images are names of files of the shipment, the index of the check by which it is judged, images of its
-own by their names, which are all that it has where there are any, and moves, or None: what arrives at a node in place of the
-scenario's input, and from the end of which epoch on. Jobs that differ in their moves alone are made by one process. Its values
-are those of the keys that vary, for a function that checks it.
+A worker gets the simulator, the images and the cases once, as a shipment, and then batches of jobs. A job is the text
+of a scenario, whose images are names of files of the shipment, the index of the check by which it is judged, images of
+its own by their names, which are all that it has where there are any, and moves, or None: what arrives at a node in
+place of the scenario's input, and from the end of which epoch on. Jobs that differ in their moves alone are made by one
+process. Its values are those of the keys that vary, for a function that checks it.
 
 An answer is a dictionary: `outcome` is one of the words below, `message` says why, `counts` has how many rows of each
-kind the trace has, `hash` is that of the trace, both None where there is no whole trace; `compared` has how much of it was
-compared in each way; `seconds` is the time of the run and its checks, `processor` what the simulator took of processors in it,
-in seconds, `trace` the trace in gzip's format or None, `again` whether another attempt can come to something else,
-`trouble` whether it was the worker that failed, and `late` whether the run took more time than it may. All of it is of
-Python's own kinds, so a client reads it whatever the worker has.
+kind the trace has, `hash` is that of the trace, both None where there is no whole trace; `compared` has how much of it
+was compared in each way; `seconds` is the time of the run and its checks, `processor` what the simulator took of
+processors in it, in seconds, `trace` the trace in gzip's format or None, `again` whether another attempt can come to
+something else, `trouble` whether it was the worker that failed, and `late` whether the run took more time than it may.
+All of it is of Python's own kinds, so a client reads it whatever the worker has.
 """
 import dataclasses
 from collections.abc import Sequence
@@ -34,8 +34,8 @@ Moves = tuple[int, str]  # epochs before the first byte, and a line of what `avr
 
 Answer = dict[str, Any]
 
-# What a worker runs before it gets a job. By the manual LDI takes one cycle and RJMP, here to itself, two: LDI in cycle 0,
-# RJMP in each odd one, 20 of them before cycle 40, and the window shows those before cycle 12.
+# What a worker runs before it gets a job. By the manual LDI takes one cycle and RJMP, here to itself, two: LDI in cycle
+# 0, RJMP in each odd one, 20 of them before cycle 40, and the window shows those before cycle 12.
 PROOF_IMAGE = ":0400000001E0FFCF4D\n:00000001FF\n"
 PROOF_NAME = "proof.hex"
 PROOF_SCENARIO = f"""version = 3
@@ -85,8 +85,8 @@ class Job(NamedTuple):
 
 @dataclasses.dataclass(frozen=True)
 class Check:
-    """What a run is judged by: cases for its trace, ways in which it is compared (`comparisons.WAYS`), and a Python file with a
-    function `check`."""
+    """What a run is judged by: cases for its trace, ways in which it is compared (`comparisons.WAYS`), and a Python
+    file with a function `check`."""
 
     cases: tuple[ShippedCase, ...]
     ways: tuple[str, ...] = ()

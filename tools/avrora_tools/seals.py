@@ -1,8 +1,8 @@
 """Sums of results: a plain one by which damage shows, and a seal by which a result is known to be of this user.
 
-A file of results may come with a repository. So that it decides nothing, each row has a seal, which is made with a key that
-lies in the user's own folder of state: without the key nobody makes one. Where the key cannot be kept it is good for this
-process alone.
+A file of results may come with a repository. So that it decides nothing, each row has a seal, which is made with a key
+that lies in the user's own folder of state: without the key nobody makes one. Where the key cannot be kept it is good
+for this process alone.
 """
 import contextlib
 import functools

@@ -10,7 +10,8 @@ import secrets
 import tempfile
 from collections.abc import Callable, Iterator
 
-from avrora_tools import benches, campaigns, checkers, draws, driving, files, pools, results, runs, scenarios, terminal, watching
+from avrora_tools import benches, campaigns, checkers, draws, driving, files, pools, results, runs, scenarios
+from avrora_tools import terminal, watching
 from avrora_tools.attempts import Attempt
 from avrora_tools.campaigns import Campaign, Shard
 from avrora_tools.errors import BadInput, CannotWork, ToolError
@@ -37,7 +38,8 @@ class Words:
 
 
 class Numbers:
-    """The numbers of a part of a campaign, as they stand there or each once in an order that the campaign's name decides."""
+    """The numbers of a part of a campaign, as they stand there or each once in an order that the campaign's name
+    decides."""
 
     def __init__(self, numbers: range, order: str, name: str) -> None:
         self.numbers, self.count = numbers, len(numbers)
@@ -117,8 +119,8 @@ class Sitting:
         return self.words.stop_after is not None and self.failures >= self.words.stop_after
 
     def wanted(self) -> Iterator[Attempt | None] | None:
-        """What has no result: at first what no result of before is kept of, then what was dropped since. None where that is
-        nothing."""
+        """What has no result: at first what no result of before is kept of, then what was dropped since. None where
+        that is nothing."""
         self.passes += 1
         if self.is_enough or self.passes > 1 and not self.has_gaps:
             return None
@@ -138,7 +140,8 @@ class Sitting:
                     continue
                 run = self.campaign.run(number)
                 digest = self.digests.of(run)
-                if found and found[0][results.DIGEST] == bytes.fromhex(digest) and self.store.is_final(found[0], self.traces):
+                is_same = found is not None and found[0][results.DIGEST] == bytes.fromhex(digest)
+                if found and is_same and self.store.is_final(found[0], self.traces):
                     self.store.take_over(*found)
                     self.progress.kept += 1
                 else:
@@ -171,8 +174,8 @@ class Sitting:
         self.store.save(attempt.run, attempt.digest, answer, host, attempt.number, second, attempt.tried)
 
     def explained(self, run: Run, answer: runs.Answer) -> str:
-        """The message of an answer. Of a scenario that was refused it says where the fault is, in the file that is kept,
-        and an image that was refused has the name that the user gave it."""
+        """The message of an answer. Of a scenario that was refused it says where the fault is, in the file that is
+        kept, and an image that was refused has the name that the user gave it."""
         message = str(answer["message"])
         if answer["outcome"] != runs.REFUSED:
             return message
@@ -264,7 +267,13 @@ def run_wanted(sitting: Sitting, simulator: bytes) -> None:
             stack.callback(pool.close)
             arbiter = Arbiter(shipment, stack)
             driver = driving.Driver(
-                pool, campaign.settings["attempts"], progress, sitting.save, sitting.distrust, arbiter, longest(campaign)
+                pool,
+                campaign.settings["attempts"],
+                progress,
+                sitting.save,
+                sitting.distrust,
+                arbiter,
+                longest(campaign),
             )
             counts = Counts(campaign, driver, lambda text: write_counts(store.folder, words.counts, text))
             told = counts.tell
@@ -276,8 +285,8 @@ def run_wanted(sitting: Sitting, simulator: bytes) -> None:
             driver.drive(lambda: iterators.pop() if iterators else sitting.wanted(), rest)
             if sitting.is_enough and progress.left:
                 progress.say(
-                    f"ended, as {sitting.failures} runs are failed or refused; {progress.left:,} have no result yet, and the "
-                    "same command goes on from there"
+                    f"ended, as {sitting.failures} runs are failed or refused; {progress.left:,} have no result yet, and "
+                    "the same command goes on from there"
                 )
         except (KeyboardInterrupt, ToolError):
             there = progress.kept + progress.done
@@ -351,7 +360,8 @@ def tell_cost(campaign: Campaign, words: Words, simulator: bytes) -> None:
     size = total * (ROW_BYTES + sum(len(answer["trace"] or b"") for answer in answers) / len(answers))
     print(f"{count} drawn runs: {outcomes}; {1_000 * each:.1f} ms each, the slowest {1_000 * slowest:.1f} ms")
     print(f"{total:,} runs: about {shown_seconds(each * total / workers)} with {workers:,} workers")
-    print(f"the simulator takes {shown_seconds(processor * total)} of processors for them, and results {shown_bytes(size)}")
+    taken = shown_seconds(processor * total)
+    print(f"the simulator takes {taken} of processors for them, and results {shown_bytes(size)}")
 
 
 ROW_BYTES = 300  # of a result in the file, about
@@ -390,8 +400,8 @@ def warn_of_results(sitting: Sitting) -> None:
     store, progress, moved = sitting.store, sitting.progress, sitting.moved
     if moved.aside:
         progress.say(
-            f"{moved.aside:,} results are of runs that are no more in the campaign: they are put aside in the results, and "
-            "come back where the runs do; --drop drops them"
+            f"{moved.aside:,} results are of runs that are no more in the campaign: they are put aside in the results, "
+            "and come back where the runs do; --drop drops them"
         )
     if moved.back:
         progress.say(f"{moved.back:,} results that were aside are back")

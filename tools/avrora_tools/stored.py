@@ -1,8 +1,9 @@
 """The file of a campaign's results: its form, how it is opened, and which of its rows are believed.
 
-It is data that may be anybody's. Before SQLite gets it, what stands beside it is looked at: a journal that names another
-journal, by which SQLite removes files, and a link are refused. Its tables, views and triggers must be those that this tool
-makes, to the letter. Of its rows those are believed that this user's tool has written, and that are as it wrote them.
+It is data that may be anybody's. Before SQLite gets it, what stands beside it is looked at: a journal that names
+another journal, by which SQLite removes files, and a link are refused. Its tables, views and triggers must be those
+that this tool makes, to the letter. Of its rows those are believed that this user's tool has written, and that are as
+it wrote them.
 """
 import contextlib
 import dataclasses
@@ -26,7 +27,8 @@ FILE = "results.sqlite"
 # The form of the file: SQLite's application_id says whose it is, its user_version which form.
 APPLICATION, FORM = 0x41565243, 3
 
-# All that is said of a run, in the order in which its sums have it. Digests and hashes are 32 bytes each, and text in the view.
+# All that is said of a run, in the order in which its sums have it. Digests and hashes are 32 bytes each, and text in
+# the view.
 FIELDS = {
     "number": "INTEGER PRIMARY KEY",
     "name": "TEXT NOT NULL",
@@ -49,10 +51,10 @@ FIELDS = {
 NAMES = tuple(FIELDS)
 SUMS = "sum BLOB NOT NULL, seal BLOB NOT NULL"
 
-# A sitting is one call of the campaign: `identity` is a hash of all that decides the outcomes of all runs, `program` and
-# `checker` are those of the simulator and of the code that checks. A run belongs to the sitting by which it has its
-# result, or in which that was found to be the same. `second` is the host that came to the same, `tried` has those that came to
-# something else or to nothing, and to what. In `aside` are results of runs that are no more in the campaign.
+# A sitting is one call of the campaign: `identity` is a hash of all that decides the outcomes of all runs, `program`
+# and `checker` are those of the simulator and of the code that checks. A run belongs to the sitting by which it has its
+# result, or in which that was found to be the same. `second` is the host that came to the same, `tried` has those that
+# came to something else or to nothing, and to what. In `aside` are results of runs that are no more in the campaign.
 SCHEMA = f"""
 CREATE TABLE about (key TEXT PRIMARY KEY, value TEXT NOT NULL) WITHOUT ROWID;
 CREATE TABLE sitting (
@@ -72,14 +74,16 @@ PRAGMA application_id = {APPLICATION};
 PRAGMA user_version = {FORM};
 """
 
-# What is said of a run with the names of its hosts and what its sitting went by in place of their keys, and its two sums.
+# What is said of a run with the names of its hosts and what its sitting went by in place of their keys, and its two
+# sums.
 RECORD = ", ".join(["known.name", "second.name", "identity", "program", "checker"])
 RECORDS = f"""SELECT {', '.join(f'r.{name}' for name in NAMES)}, {RECORD}, r.sum, r.seal FROM {{table}} AS r
     LEFT JOIN sitting ON sitting.id = r.sitting LEFT JOIN host AS known ON known.id = r.host
     LEFT JOIN host AS second ON second.id = r.second"""
 OF_RECORD = len(NAMES) - 3  # of a row of RECORDS: what stands before the keys of host, second and sitting
 
-# How long another program may have the file for itself, in seconds; and for how long SQLite itself waits, which hears nothing.
+# How long another program may have the file for itself, in seconds; and for how long SQLite itself waits, which hears
+# nothing.
 PATIENCE, DEAF_SECONDS = 600.0, 0.1
 TELL_SECONDS = 1.0  # until it is told that another program has it
 
@@ -258,8 +262,8 @@ class Reading:
 
 @contextlib.contextmanager
 def reading(path: str, adopts: bool = False, say: Callable[[str], None] = lambda text: None) -> Iterator[Reading]:
-    """A file of results for reports that may take long: a copy of it, so that a campaign that is at work waits no longer than
-    for copying."""
+    """A file of results for reports that may take long: a copy of it, so that a campaign that is at work waits no
+    longer than for copying."""
     with contextlib.ExitStack() as stack:
         try:
             folder = stack.enter_context(Folder.above(path))
@@ -283,8 +287,8 @@ def reading(path: str, adopts: bool = False, say: Callable[[str], None] = lambda
 
 
 def keep_believed(database: sqlite3.Connection, trust: Trust) -> None:
-    """Leaves the results alone that are believed. One whose number is damaged stands where no search by it leads, so where one is
-    bad, or they are out of order, the table is made anew."""
+    """Leaves the results alone that are believed. One whose number is damaged stands where no search by it leads, so
+    where one is bad, or they are out of order, the table is made anew."""
     is_good, last = True, -1
     for row in database.execute(RECORDS.format(table="run")):
         is_good = trust.believes(row) and row[0] > last and is_good
@@ -303,7 +307,8 @@ def keep_believed(database: sqlite3.Connection, trust: Trust) -> None:
 
 
 def copy(folder: Folder, name: str, to: str) -> None:
-    """A copy of a file of results. One that was left within a transaction has a journal, by which the copy is mended."""
+    """A copy of a file of results. One that was left within a transaction has a journal, by which the copy is
+    mended."""
     uri = f"file:{urllib.parse.quote(folder.path_within(name))}?mode=ro"
     with contextlib.closing(sqlite3.connect(to)) as copied:
         try:

@@ -1,8 +1,8 @@
-"""The scenarios of a campaign: one with other values at some keys, networks of a shape, or what a function draws; made one by
-one, as they are needed.
+"""The scenarios of a campaign: one with other values at some keys, networks of a shape, or what a function draws; made
+one by one, as they are needed.
 
-All runs that differ in the values of the same keys are a group. A group knows how many they are, and makes each from its
-index, so that a campaign of a million runs costs no more to begin than one of ten.
+All runs that differ in the values of the same keys are a group. A group knows how many they are, and makes each from
+its index, so that a campaign of a million runs costs no more to begin than one of ten.
 """
 import copy
 import dataclasses
@@ -128,7 +128,8 @@ class Group:
             found = [(int(number[0]), number[0])] if number and int(number[0]) in axis.values else []
             choices = [(axis.values.index(value), text) for value, text in found if str(value) == text]
         else:
-            choices = [(place, shown(value)) for place, value in enumerate(axis.values) if rest.startswith(shown(value))]
+            texts = enumerate(map(shown, axis.values))
+            choices = [(place, text) for place, text in texts if rest.startswith(text)]
         for place, value in choices:
             others = self.places_of(rest[len(value) :], first + 1)
             if others is not None:
@@ -147,8 +148,8 @@ class Group:
     unmoved = ""  # the scenario of all runs that differ in what arrives at a node
 
     def moves(self, values: Sequence[Any]) -> tuple[int, str] | None:
-        """What arrives at the node that alone differs from run to run, and how many epochs end before any of it; None where
-        that is not all that differs."""
+        """What arrives at the node that alone differs from run to run, and how many epochs end before any of it; None
+        where that is not all that differs."""
         return None
 
     def recipe(self, values: Sequence[Any]) -> str:
@@ -271,16 +272,18 @@ def shown(value: Any) -> str:
 
 
 def moved_of(network: Table, axes: Sequence[Axis]) -> tuple[int, int, list[Any]] | None:
-    """Where a scenario with slots differs in one node's input alone: that node, how many epochs end before any of its bytes,
-    and its script: the cycle of the first byte, the cycles to the next, and the bytes."""
+    """Where a scenario with slots differs in one node's input alone: that node, how many epochs end before any of its
+    bytes, and its script: the cycle of the first byte, the cycles to the next, and the bytes."""
     tables = [table for table in network.get("input", ()) if any(isinstance(value, Slot) for value in table.values())]
-    if len(tables) != 1 or len({axis.key.rsplit(".", 1)[0] for axis in axes}) != 1 or not axes[0].key.startswith("input."):
+    heads = {axis.key.rsplit(".", 1)[0] for axis in axes}
+    if len(tables) != 1 or len(heads) != 1 or not axes[0].key.startswith("input."):
         return None
     table = tables[0]
     script = [table.get("at"), table.get("every", DEFAULT_EVERY), table.get("hex")]
     allowed: list[Callable[[Any], bool]] = [is_cycle, is_every, is_hex]
     values = [axes[it.axis].values if isinstance(it, Slot) else [it] for it in script]
-    if isinstance(table.get("node"), Slot) or not all(all(map(fits, of)) for fits, of in zip(allowed, map(ends_of, values))):
+    are_fit = all(all(map(fits, ends_of(of))) for fits, of in zip(allowed, values))
+    if isinstance(table.get("node"), Slot) or not are_fit:
         return None
     cycles, epochs = network.get("cycles"), min(ends_of(values[0])) // EPOCH
     if type(cycles) is not int or epochs < 1 or epochs * EPOCH >= cycles:

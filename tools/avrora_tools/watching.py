@@ -1,5 +1,5 @@
-"""What an operator sees of a campaign at work: a line of progress, a log with times and hosts, and counts of each worker in a
-file that Prometheus' node exporter reads."""
+"""What an operator sees of a campaign at work: a line of progress, a log with times and hosts, and counts of each
+worker in a file that Prometheus' node exporter reads."""
 import collections
 import contextlib
 import dataclasses
@@ -51,8 +51,8 @@ class Log:
 
 
 class Progress:
-    """What is told as it happens: a line on a terminal that is written anew; without one, a line a minute. Runs that are
-    not passed, and workers that are set aside, are told at once; these and all else stand in the log."""
+    """What is told as it happens: a line on a terminal that is written anew; without one, a line a minute. Runs that
+    are not passed, and workers that are set aside, are told at once; these and all else stand in the log."""
 
     def __init__(self, total: int, log: Log | None = None) -> None:
         self.total, self.kept = total, 0

@@ -20,11 +20,11 @@ os.environ["XDG_STATE_HOME"] = STATE_HOME
 atexit.register(shutil.rmtree, STATE_HOME, ignore_errors=True)
 
 # Stands for the simulator. What it does is told by the latency of the scenario, so that a campaign can vary it: 1 the
-# scenario is refused, 2 it hangs, 3 it fails the first time, 4 it always fails, 5 with a status that another attempt does
-# not change, 6 with that of a full disk, else node 0 sends a byte. It notes each start. The scenario by which a worker
-# proves itself comes out as it should, unless CAMPAIGN_SICK is set. From the latency CAMPAIGN_HELD on it says in a file
-# that the process which started it has a run under way, and waits for the file `go` beside the log. From the latency
-# CAMPAIGN_FULL on it fills the disk that it works on, and ends as one that cannot write.
+# scenario is refused, 2 it hangs, 3 it fails the first time, 4 it always fails, 5 with a status that another attempt
+# does not change, 6 with that of a full disk, else node 0 sends a byte. It notes each start. The scenario by which a
+# worker proves itself comes out as it should, unless CAMPAIGN_SICK is set. From the latency CAMPAIGN_HELD on it says in
+# a file that the process which started it has a run under way, and waits for the file `go` beside the log. From the
+# latency CAMPAIGN_FULL on it fills the disk that it works on, and ends as one that cannot write.
 SIMULATOR = f"""#!{sys.executable} -IS
 import os, sys, time
 text = open(sys.argv[2]).read()

@@ -3,10 +3,11 @@
 
     tools/tests/drawn_sickness.py [SECONDS [SEED]]
 
-Each round is a campaign of two hundred runs on three or four processes of this machine, with a second opinion on each second run
-that passed. One of them gets sick behind a drawn count of runs, in each of a drawn number of them. Now and then the client is killed
-in between, and the same command goes on. What comes of each run is compared with what is known of it by hand. Status 1 where an
-outcome or a hash is wrong, a failure is told that is none, the sick worker is not named, or a well one is set aside.
+Each round is a campaign of two hundred runs on three or four processes of this machine, with a second opinion on each
+second run that passed. One of them gets sick behind a drawn count of runs, in each of a drawn number of them. Now and
+then the client is killed in between, and the same command goes on. What comes of each run is compared with what is
+known of it by hand. Status 1 where an outcome or a hash is wrong, a failure is told that is none, the sick worker is
+not named, or a well one is set aside.
 """
 import collections
 import os

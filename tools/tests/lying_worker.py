@@ -1,12 +1,13 @@
 #!/usr/bin/env python3
-"""A campaign by the real simulator, of which one worker lies from the middle on: is any result another one than without it?
+"""A campaign by the real simulator, of which one worker lies from the middle on: is any result another one than without
+it?
 
     AVRORA_PROGRAM=PROGRAM tools/tests/lying_worker.py [RUNS [WORKERS]]
 
-The runs are short ones of examples/hello.hex. One process of this machine, the first to begin, tells a lie in each third of its
-runs once it has made its share of the first half: by turns a byte of what the node wrote, so that the case is not met, and a
-count in an end row, which shows in the hash alone. The same campaign without a lie, beside it, says what is right. Status 1
-where a result differs, or the worker is not set aside.
+The runs are short ones of examples/hello.hex. One process of this machine, the first to begin, tells a lie in each
+third of its runs once it has made its share of the first half: by turns a byte of what the node wrote, so that the case
+is not met, and a count in an end row, which shows in the hash alone. The same campaign without a lie, beside it, says
+what is right. Status 1 where a result differs, or the worker is not set aside.
 """
 import concurrent.futures
 import os

@@ -7,8 +7,9 @@ import sys
 
 from avrora_tools import runs
 
-# Stands for the simulator, as that of campaign_runs does, and is sick as CAMPAIGN_SICKNESS says. With CAMPAIGN_ONE it is so only
-# where it is called by the process that called it first in this campaign, so that one of several workers is sick.
+# Stands for the simulator, as that of campaign_runs does, and is sick as CAMPAIGN_SICKNESS says. With CAMPAIGN_ONE it
+# is so only where it is called by the process that called it first in this campaign, so that one of several workers is
+# sick.
 SIMULATOR = f"""#!{sys.executable} -IS
 import os, signal, sys, time
 text = open(sys.argv[2]).read()

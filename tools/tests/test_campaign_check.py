@@ -1,4 +1,5 @@
-"""campaign: runs that a function of the user checks, links and nodes that are gone for a while, and values that are drawn."""
+"""campaign: runs that a function of the user checks, links and nodes that are gone for a while, and values that are
+drawn."""
 import tomllib
 
 import pytest
@@ -32,7 +33,8 @@ def written(path, name, text):
 
 
 def test_check():
-    """It is given the values and all rows; what it says is what failed. It decides the results: another file makes them again."""
+    """It is given the values and all rows; what it says is what failed. It decides the results: another file makes them
+    again."""
     with folder(CHECKED) as path:
         written(path, "own.py", CODE)
         status, _, errors, rows = run_campaign(path, "--run-code", "--jobs", "2")

@@ -69,7 +69,8 @@ def test_one_bit_flips():
 
 
 def test_the_number_of_a_row():
-    """One bit of the key by which it is sought: it is told by no report, and a sitting makes the run again, which mends the file."""
+    """One bit of the key by which it is sought: it is told by no report, and a sitting makes the run again, which mends
+    the file."""
     with folder(TEXT) as path:
         filled(path)
         written, _ = rows_of(f"{path}/r/{results.FILE}")

@@ -1,4 +1,5 @@
-"""campaign: what of the answers of workers is believed. The workers are a mock in this process, and their time is counted."""
+"""campaign: what of the answers of workers is believed. The workers are a mock in this process, and their time is
+counted."""
 import collections
 
 import pytest
@@ -11,8 +12,8 @@ RUNS = 100_000
 
 
 class Answering(FakePool):
-    """Workers that answer with the number of the run as its trace's hash. Who lies, and from which of its runs on, is said by
-    `lies`; a lie is each third of them: another hash, or that the run failed."""
+    """Workers that answer with the number of the run as its trace's hash. Who lies, and from which of its runs on, is
+    said by `lies`; a lie is each third of them: another hash, or that the run failed."""
 
     def __init__(self, names, lies=None, outcome=runs.PASSED):
         super().__init__(dict.fromkeys(names, 0.01))
@@ -89,7 +90,8 @@ def test_one_of_four_lies_from_the_middle_on(outcome):
 
 
 def test_no_failure_is_told_of_one_worker_alone():
-    """Each run that is not passed was made by two, and none of two hundred is from the one that says so of what is well."""
+    """Each run that is not passed was made by two, and none of two hundred is from the one that says so of what is
+    well."""
     found, _ = driven(Answering("ab", {"b": 0}, runs.FAILED), 200, arbiter=lambda job: Answering("x").answer(pools.Worker("x"), int(job[0])))
     assert not wrong(found)
 

@@ -1,5 +1,6 @@
-"""campaign: runs that differ in what arrives at one node are made many by one process, by the program that AVRORA_PROGRAM names:
-with the rows of each made by itself, and where runs are short in a third of the program's time at most."""
+"""campaign: runs that differ in what arrives at one node are made many by one process, by the program that
+AVRORA_PROGRAM names: with the rows of each made by itself, and where runs are short in a third of the program's time at
+most."""
 import shutil
 import tempfile
 
@@ -35,8 +36,8 @@ expect = "late.expect"
 
 
 def both_ways(text):
-    """The answers to all runs of a campaign made together, and one by one; and the seconds of processors that each way took of
-    the simulator."""
+    """The answers to all runs of a campaign made together, and one by one; and the seconds of processors that each way
+    took of the simulator."""
     with folder(text) as path, tempfile.TemporaryDirectory() as place:
         with open(f"{path}/late.expect", "w", encoding="utf-8") as file:
             file.write(LATE)

@@ -1,5 +1,5 @@
-"""campaign: workers that stand still, or die before they have proved themselves; and that the client's work for a run does not grow
-with their count."""
+"""campaign: workers that stand still, or die before they have proved themselves; and that the client's work for a run
+does not grow with their count."""
 import importlib.util
 import os
 import signal
@@ -54,7 +54,8 @@ def test_killed_before_its_proof_each_time(pool):
 
 
 def test_it_gives_no_sign(pool):
-    """As long as that may take it is left alone; then it is ended by name, what it had is lost, and another one comes."""
+    """As long as that may take it is left alone; then it is ended by name, what it had is lost, and another one
+    comes."""
     (proved,) = next_events(pool)
     worker = proved.worker
     os.kill(worker.process.pid, signal.SIGSTOP)

@@ -1,5 +1,5 @@
-"""campaign: one worker of some is sick, after it has proved itself. What comes of the runs is what came of them without it, and its
-name is told."""
+"""campaign: one worker of some is sick, after it has proved itself. What comes of the runs is what came of them without
+it, and its name is told."""
 import os
 import signal
 import unittest

@@ -1,4 +1,5 @@
-"""campaign: a file of results that is damaged or of somebody else decides nothing; parts of a campaign; results of another version."""
+"""campaign: a file of results that is damaged or of somebody else decides nothing; parts of a campaign; results of
+another version."""
 import contextlib
 import os
 import shutil
@@ -139,7 +140,8 @@ def test_what_draw_reads():
 
 
 def test_parts():
-    """One alone lacks the others; one twice, and one of another campaign, are refused; all together are whole, and merged."""
+    """One alone lacks the others; one twice, and one of another campaign, are refused; all together are whole, and
+    merged."""
     with folder(GOOD, "* 0 sent AA\n") as path:
         for part in ("1/3", "2/3", "3/3"):
             assert run_campaign(path, "--shard", part, without_dask=False)[0] == 0

@@ -109,8 +109,8 @@ class Sick(Cluster):
     WORKERS = 0
 
     def assert_set_aside(self, reason, at_once=True):
-        """Beside a worker that is well one named `sick` is set aside for a reason; all runs are passed, each by one attempt
-        that counts. Where that is `at_once`, none on the sick one."""
+        """Beside a worker that is well one named `sick` is set aside for a reason; all runs are passed, each by one
+        attempt that counts. Where that is `at_once`, none on the sick one."""
         self.start_worker("well")
         self.wait_for_workers(2)
         status, text = self.ended(*self.start_campaign())
@@ -193,8 +193,8 @@ class ClientKilled(Cluster):
     WORKERS = 2
 
     def test_the_same_command_goes_on(self):
-        """At once, though the workers still have the runs of the client that was killed; and at the end they have no files of
-        either."""
+        """At once, though the workers still have the runs of the client that was killed; and at the end they have no
+        files of either."""
         campaign, _ = self.start_campaign()
         wait_for(lambda: any(name.startswith("held-") for name in os.listdir(self.path)) and stored(self.path) >= 3)
         campaign.kill()

@@ -8,7 +8,8 @@ import sys
 from collections.abc import Callable, Iterator
 from types import FrameType
 
-from avrora_tools import campaigns, cli, coverage, files, reports, results, runs, shipping, sittings, stored, terminal, watching
+from avrora_tools import campaigns, cli, coverage, files, reports, results, runs, shipping, sittings, stored
+from avrora_tools import terminal, watching
 from avrora_tools.campaigns import Campaign, Shard
 from avrora_tools.errors import BadInput, BadWords, Status
 
@@ -25,13 +26,14 @@ FILE is TOML (CAMPAIGNS.md has all of it):
   "input.2.at" = { from = 2_000, to = 50_000, step = 2_000 }
 
 What comes of each run is a row of NAME.results/results.sqlite, so a campaign that was cut goes on where it was by the
-same words. A run that came to no answer (its worker died, it took too long) is begun again, `attempts` times in all. One
-that is not passed is made again on another worker before it is told.
+same words. A run that came to no answer (its worker died, it took too long) is begun again, `attempts` times in all.
+One that is not passed is made again on another worker before it is told.
 Status 0: all runs are passed; 1: one is failed or refused; 2: FILE is no campaign; 3: none is failed, and one came to
 no answer, or the campaign cannot go on."""
 
 def place_of(campaign: Campaign, shard: Shard, named: str | None) -> str | tuple[str, str]:
-    """Where a campaign's results are: a folder that the user named, or one below the campaign's. A shard has its own in it."""
+    """Where a campaign's results are: a folder that the user named, or one below the campaign's. A shard has its own in
+    it."""
     part = "" if shard.count == 1 else f"shard-{shard.number}-of-{shard.count}"
     if named:
         return os.path.join(named, part) if part else named
@@ -102,7 +104,8 @@ def report_on(arguments: argparse.Namespace) -> int:
         readings = [stack.enter_context(results.reading(path, arguments.adopt, terminal.say)) for path in paths]
         covered = coverage.covered(readings, arguments.shard.count > 1)
         coverage.tell_versions(covered, readings, campaign, sittings.program_known(arguments.avrora))
-        report = reports.Report([reading.database for reading in readings], arguments.by, arguments.reverse, arguments.top)
+        databases = [reading.database for reading in readings]
+        report = reports.Report(databases, arguments.by, arguments.reverse, arguments.top)
         write_report(report, arguments)
         for line in covered.told:
             terminal.say(line)
@@ -217,14 +220,16 @@ def check_words(arguments: argparse.Namespace) -> None:
             raise BadWords(f"--{word} goes with --report")
     for word in ("dry_run", "report", "merge", "list", "scenario"):
         if getattr(arguments, word) and (arguments.stop_after or arguments.counts or arguments.drop or arguments.anew):
-            raise BadWords(f"--{word.replace('_', '-')} runs no campaign, so --anew, --drop, --stop-after and --counts are idle")
+            word = word.replace("_", "-")
+            raise BadWords(f"--{word} runs no campaign, so --anew, --drop, --stop-after and --counts are idle")
 
 
 def write_one(campaign: Campaign, arguments: argparse.Namespace) -> int:
     """Writes the scenario of one run, and its images."""
     one = campaign.called(arguments.scenario)
     if one is None:
-        raise BadInput(f"{campaign.path}: no run is called {files.printable(arguments.scenario)}; --list tells all names")
+        name = files.printable(arguments.scenario)
+        raise BadInput(f"{campaign.path}: no run is called {name}; --list tells all names")
     print(one.scenario(), end="")
     if arguments.images:
         results.write_images(arguments.images, one.images())
@@ -247,22 +252,34 @@ def configure(parser: argparse.ArgumentParser) -> None:
     parser.add_argument(
         "--scheduler", metavar="ADDRESS", help="a scheduler of dask, as tcp://HOST:8786; else this machine"
     )
-    parser.add_argument("--jobs", type=cli.positive, metavar="N", help="processes of this machine; else one a processor")
-    parser.add_argument("--run-code", action="store_true", help="run the Python files that `draw` and `check` name in FILE")
+    parser.add_argument(
+        "--jobs", type=cli.positive, metavar="N", help="processes of this machine; else one a processor"
+    )
+    parser.add_argument(
+        "--run-code", action="store_true", help="run the Python files that `draw` and `check` name in FILE"
+    )
     parser.add_argument("--results", metavar="FOLDER", help="where results go, whatever FILE says")
     parser.add_argument("--anew", action="store_true", help="run all again, also where a result is there")
     parser.add_argument(
-        "--shard", type=shard, default=Shard(), metavar="I/N", help="each Nth run from the Ith on, with results of its own"
+        "--shard", type=shard, default=Shard(), metavar="I/N",
+        help="each Nth run from the Ith on, with results of its own",
     )
     parser.add_argument(
-        "--order", choices=sittings.ORDERS, default="file", help="runs as they stand, or drawn: each part is a sample of all"
+        "--order", choices=sittings.ORDERS, default="file",
+        help="runs as they stand, or drawn: each part is a sample of all",
     )
     parser.add_argument("--stop-after", type=cli.positive, metavar="N", help="end once N runs are failed or refused")
-    parser.add_argument("--dry-run", action="store_true", help="make 50 drawn runs, keep nothing, and tell what all will cost")
+    parser.add_argument(
+        "--dry-run", action="store_true", help="make 50 drawn runs, keep nothing, and tell what all will cost"
+    )
     parser.add_argument("--drop", action="store_true", help="drop results of runs that are no more in the campaign")
     parser.add_argument("--adopt", action="store_true", help="believe results that another user or machine wrote")
-    parser.add_argument("--counts", metavar="FILE", help="write the workers' counts to FILE too, for Prometheus' node exporter")
-    parser.add_argument("--merge", action="store_true", help="take the results of parts (--shard) over into those of FILE")
+    parser.add_argument(
+        "--counts", metavar="FILE", help="write the workers' counts to FILE too, for Prometheus' node exporter"
+    )
+    parser.add_argument(
+        "--merge", action="store_true", help="take the results of parts (--shard) over into those of FILE"
+    )
     parser.add_argument("--list", action="store_true", help="write the names of all runs, and run none")
     parser.add_argument("--scenario", metavar="NAME", help="write the scenario of one run, and run none")
     parser.add_argument("--images", metavar="FOLDER", help="with --scenario: write the images that this run alone has")

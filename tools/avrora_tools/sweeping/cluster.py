@@ -1,8 +1,8 @@
 """Runs the moves of a sweep on workers that are sent batches of them, as those of a campaign are: on a cluster of dask.
 
-The same rules hold as there (`driving`): what is not well on a worker is made again on another one, one in a hundred runs is made
-by two, and who differs is set aside. A worker hands back those rows alone that the check reads. Before a failure is told the run
-is made here.
+The same rules hold as there (`driving`): what is not well on a worker is made again on another one, one in a hundred
+runs is made by two, and who differs is set aside. A worker hands back those rows alone that the check reads. Before a
+failure is told the run is made here.
 """
 import collections
 import contextlib
@@ -51,13 +51,14 @@ class Tail:
 
 
 class ClusterTails(ProcessTails):
-    """As ProcessTails, but what is asked for by `outputs` runs on the workers of a pool. The single runs by which a sweep
-    finds its classes, and looks into a finding, take place here."""
+    """As ProcessTails, but what is asked for by `outputs` runs on the workers of a pool. The single runs by which a
+    sweep finds its classes, and looks into a finding, take place here."""
 
     def __init__(self, simulator: Simulator, scenario: MovedScenario, state: bytes | None = None) -> None:
         super().__init__(simulator, scenario, 1, state)
         nodes: list[dict[str, str]] = scenario.document["node"]
-        self.images = {path: f"image{number}.hex" for number, path in enumerate(dict.fromkeys(it["image"] for it in nodes))}
+        paths = dict.fromkeys(it["image"] for it in nodes)
+        self.images = {path: f"image{number}.hex" for number, path in enumerate(paths)}
         self.stack = contextlib.ExitStack()
         self.driver: driving.Driver | None = None
         self.asked: list[tuple[Move, Window]] = []
@@ -81,7 +82,8 @@ class ClusterTails(ProcessTails):
         return runs.Shipment(files, [runs.Check(())], timeout, "all", words, tuple(kinds))
 
     def connect(self, address: str, program: bytes, kinds: Sequence[bytes] = ()) -> None:
-        """Takes the workers of a scheduler of dask. They hand those rows back that have one of `kinds` in them, else all."""
+        """Takes the workers of a scheduler of dask. They hand those rows back that have one of `kinds` in them, else
+        all."""
         shipment = self.shipment(program, kinds)
         pool = pools.pool(address, None, shipment, 1, self.folder.name)
         self.drive_by(pool, sittings.Arbiter(shipment, self.stack))
@@ -93,7 +95,9 @@ class ClusterTails(ProcessTails):
         longest = float(self.simulator.timeout)
         self.driver = driving.Driver(pool, ATTEMPTS, progress, self.keep, self.distrust, arbiter, longest)
 
-    def __exit__(self, kind: type[BaseException] | None, fault: BaseException | None, trace: TracebackType | None) -> None:
+    def __exit__(
+        self, kind: type[BaseException] | None, fault: BaseException | None, trace: TracebackType | None
+    ) -> None:
         try:
             self.stack.close()
         finally:
