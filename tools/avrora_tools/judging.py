@@ -181,6 +181,11 @@ class Judge:
             self.settle(attempt, own, None, OWN)
             self.was_wrong(worker, attempt, other, own)
             return
+        is_own_final = own is not None and own["outcome"] in runs.FINAL
+        if len(attempt.opinions) == 1 and not is_own_final and attempt.opinions[0][1]["outcome"] == runs.PASSED:
+            ((worker, other),) = attempt.opinions  # as of most runs that passed one alone says so
+            self.settle(attempt, other, worker, None)
+            return
         if own is None or not same:
             said = "; ".join(f"{worker.name}: {described(other)}" for worker, other in attempt.opinions)
             broken = runs.answer(runs.BROKEN, f"it came out otherwise each time: {said}")

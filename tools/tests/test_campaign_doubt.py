@@ -134,6 +134,19 @@ def test_one_in_a_hundred_is_made_again():
     assert not said
 
 
+def test_a_second_opinion_that_does_not_come():
+    """A run that passed, and that nobody else comes to an answer of in time, is passed as those that one alone made are."""
+    busy = runs.answer(runs.BROKEN, "took more than 10 s")
+    driver = driving.Driver(Answering("a"), 3, watching.Progress(1), lambda *words: saved.append(words), arbiter=lambda job: busy)
+    saved = []
+    for outcome, comes_to in ((runs.PASSED, runs.PASSED), (runs.FAILED, runs.BROKEN)):
+        attempt = attempts.Attempt(Run(7), "")
+        worker = pools.Worker("a")
+        attempt.opinions = [(worker, {**runs.answer(outcome), "hash": "00", "counts": [0] * 5})]
+        driver.judge.decide(attempt)
+        assert saved[-1][1]["outcome"] == comes_to and saved[-1][3] is None
+
+
 class Regular(Answering):
     """One lies in each tenth run, of which a hundred is a multiple."""
 
