@@ -63,7 +63,7 @@ def run(arguments: argparse.Namespace) -> int:
         chosen = chosen_of(arguments.only)
         races = None
         if chosen is None or ARRIVALS in chosen:
-            races = Races(simulator, document, until, known, arguments.jobs, limit)
+            races = Races(simulator, document, until, known, arguments.jobs, limit, corpus.race)
         has_check = bool(arguments.expect or arguments.check)
         hunt = Hunt(
             Runner(tails, scenes_), document, until, oracle_of, has_check, races, lines, limit, arguments.seed, chosen
@@ -71,6 +71,7 @@ def run(arguments: argparse.Namespace) -> int:
         if hunt.unmoved_failure:
             raise BadInput(f"the scenario fails as it is, with nothing varied: {hunt.unmoved_failure.text}")
         print_plan(hunt, corpus)
+        corpus.clear()
         hunt.run(corpus.rounds_of(arguments.seed), corpus.failed, arguments.rounds, lambda text: print(text, flush=True))
         telling.print_hunt(hunt, corpus, arguments.scenario, arguments.elf)
         corpus.write(arguments.seed, hunt.rounds, hunt.failing)

@@ -6,6 +6,8 @@ import re
 from collections import Counter
 from collections.abc import Iterator
 
+from avrora_tools import terminal
+from avrora_tools.errors import CannotWork
 from avrora_tools.hunting.changes import Cut, Document, Input, Latency, Trial, inputs_of
 from avrora_tools.hunting.oracles import Failure
 from avrora_tools.hunting.smaller import Scene
@@ -42,8 +44,8 @@ class Finding:
     """A cause: how often it was met and by which kinds of trials, the smallest scenario, and what is wrong there.
 
     `lines` are run in the failing run and not in the right one, as FILE:LINE of the nodes' programs, and of `uneven` lines
-    one was run more often than the other there alone. Of a race `places` says where the arrival comes, and `command`
-    sweeps it."""
+    one was run more often than the other there alone. Of a race `places` says where the arrival comes, `command`
+    sweeps it, and `opened` runs it."""
 
     look: Look
     failure: Failure
@@ -55,6 +57,7 @@ class Finding:
     uneven: tuple[Uneven, ...] = ()
     places: tuple[str, ...] = ()
     command: str = ""
+    opened: str = ""  # a line of a shell that runs the earliest failing arrival
     path: str = ""  # of the scenario that was written
 
     def apart(self) -> tuple[object, ...]:
@@ -109,7 +112,11 @@ class Lines:
         if not self.by_image:
             return {}
         path = self.tails.written({**document, "window": [0, 0]})
-        output = self.tails.simulator.call("monitor", path, "0", str(document["cycles"]))
+        try:
+            output = self.tails.simulator.call("monitor", path, "0", str(document["cycles"]))
+        except CannotWork as fault:  # a finding without lines is one all the same
+            terminal.warn(f"which lines run is not known: {fault}")
+            return {}
         found: Counts = {}
         for node, address, count in re.findall(rb"^(\d+) at ([0-9A-F]{4}) (\d+) ", output, re.MULTILINE):
             program = self.by_image.get(document["node"][int(node)]["image"])
@@ -122,6 +129,8 @@ class Lines:
         """The lines that are executed in the failing run alone; and pairs of lines that each node executes equally often
         in the right run, and one does not in the failing run."""
         failing, right = self.executed(scene.failing()), self.executed(scene.document)
+        if not failing or not right:
+            return (), ()
         alone = tuple(sorted(failing.keys() - right.keys(), key=line_key))
         return alone, tuple(uneven(failing, right))[:MOST_UNEVEN]
 

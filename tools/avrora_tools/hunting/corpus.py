@@ -10,7 +10,7 @@ from avrora_tools.hunting.changes import Trial, record_of, trial_of
 from avrora_tools.writing import Folder
 
 STATE = "hunt.json"
-FOUND = re.compile(r"found-[0-9]+(?:-right)?\.toml")
+FOUND = re.compile(r"(?:found-[0-9]+(?:-right)?\.toml|race-[0-9]+\.toml(?:\.state|\.moves)?)")
 VERSION = 1
 MOST_TRIALS = 1_000
 
@@ -51,8 +51,13 @@ class Corpus:
         }
         files.write_whole(os.path.join(self.folder, STATE), json.dumps(record, indent=1) + "\n")
 
-    def next_name(self, place: int) -> str:
-        return os.path.join(self.folder, f"found-{place}.toml")
+    def found(self, number: int) -> str:
+        """The file of a finding."""
+        return os.path.join(self.folder, f"found-{number}.toml")
+
+    def race(self, number: int) -> str:
+        """The file of an arrival that fails, which may need a state and moves beside it."""
+        return os.path.join(self.folder, f"race-{number}.toml")
 
     def clear(self) -> None:
         """Makes the folder, and removes the scenarios of an earlier hunt: they are written anew as far as they still fail."""

@@ -3,7 +3,7 @@ simulator tells. Behind these places it sweeps drawn spans."""
 import dataclasses
 import random
 import shlex
-from collections.abc import Iterator, Mapping, Sequence
+from collections.abc import Callable, Iterator, Mapping, Sequence
 
 from avrora_tools.errors import BadInput, BadWords
 from avrora_tools.hunting.causes import Finding
@@ -15,9 +15,11 @@ from avrora_tools.programs import Program, Programs
 from avrora_tools.sweeping import findings as grouping
 from avrora_tools.sweeping.events import InputByte, Move, Moved, MovedScenario, Script, Span, moved_scenario, script_of
 from avrora_tools.sweeping.limits import Limit
+from avrora_tools.sweeping.plans import spread
 from avrora_tools.sweeping.sharing import Sharing, objects_of
 from avrora_tools.sweeping.simulation import ProcessTails, Simulator
 from avrora_tools.sweeping.sweep import Options, Sweep
+from avrora_tools.sweeping.telling import shown_command, write_earliest
 
 NAME = "arrivals"
 RACE = "a race"
@@ -62,8 +64,18 @@ class Races:
     """The kind of a hunt that sweeps. A turn is one visit, or one drawn span."""
 
     def __init__(
-        self, simulator: Simulator, document: Document, until: int, programs: Programs | None, jobs: int, limit: Limit
+        self,
+        simulator: Simulator,
+        document: Document,
+        until: int,
+        programs: Programs | None,
+        jobs: int,
+        limit: Limit,
+        place_of: Callable[[int], str],
     ) -> None:
+        """`place_of` names the file of a race, by its number."""
+        self.place_of = place_of
+        self.written = 0
         self.simulator, self.document, self.until, self.jobs, self.limit = simulator, document, until, jobs, limit
         self.programs = programs
         self.executions = Executions(simulator, dict(document))
@@ -73,7 +85,7 @@ class Races:
         self.ready: list[Visit] = []
         self.seen: set[tuple[str, frozenset[int]]] = set()
         self.unsayable = 0
-        self.turns = self.runs = self.places = 0
+        self.runs = 0
         self.is_wide = False
 
     def bytes_that_move(self) -> Iterator[InputByte]:
@@ -117,15 +129,15 @@ class Races:
             executions.has_watch = self.executions.has_watch
             cycles = list(executions.cycles(event.node, sorted(shared), first, last))
             self.executions.has_watch = executions.has_watch
-            yield list(stretches(event, cycles))[:MOST_VISITS]
+            yield in_rounds(list(stretches(event, cycles)))[:MOST_VISITS]
 
     def room(self, script: Script) -> tuple[int, int]:
-        """Between which cycles a byte can come: behind the one before it, and before the next, or the deadline by as
-        much as it has in the scenario."""
-        before = script.nominal(script.index - 1)
+        """Between which cycles a byte can come: behind the one before it, and before the next; the last one as long before
+        the deadline as runs go on behind it, so that its answer has that room twice."""
         is_last = script.index + 1 == len(script.bytes_)
-        behind = self.until - (self.until - script.nominal(script.index)) // 2 if is_last else script.nominal(script.index + 1)
-        return before + 1, min(behind, self.until) - 1
+        early = self.until - (int(self.document["cycles"]) - self.until)
+        behind = max(early, script.nominal(script.index) + 1) if is_last else script.nominal(script.index + 1)
+        return script.nominal(script.index - 1) + 1, min(behind, self.until) - 1
 
     def next_visit(self) -> Visit | None:
         """The visit to be swept next: first those of code that was not swept yet."""
@@ -140,21 +152,17 @@ class Races:
 
     def turn(self, random_: random.Random, oracle: Oracle, reference: Reference) -> list[Finding]:
         """Sweeps one visit; where there is none any more, a drawn span."""
-        visit = self.next_visit()
-        options = Options()
-        if visit is None:
-            visit = self.drawn(random_)
-            options = Options(per_place=PER_PLACE)
-            self.is_wide = True
-        if visit is None:
-            return []
-        self.seen.add((self.document["node"][visit.event.node]["image"], visit.addresses))
-        scenario = self.moved(visit)
-        if scenario is None:
+        while visit := self.next_visit():
+            if scenario := self.moved(visit):
+                self.seen.add((self.document["node"][visit.event.node]["image"], visit.addresses))
+                return self.swept(visit, scenario, Options(), oracle, reference)
             self.unsayable += 1
+        self.is_wide = True
+        visit = self.drawn(random_)
+        scenario = self.moved(visit) if visit else None
+        if visit is None or scenario is None:
             return []
-        self.turns += 1
-        return self.swept(visit, scenario, options, oracle, reference)
+        return self.swept(visit, scenario, Options(per_place=PER_PLACE), oracle, reference)
 
     def drawn(self, random_: random.Random) -> Visit | None:
         if not self.events:
@@ -187,7 +195,6 @@ class Races:
             for _ in sweep.run(options):
                 pass
             self.runs += sweep.results.runs
-            self.places += len({cell.place() for cell in sweep.results.ran})
             return [self.finding(sweep, one, check) for one in sweep.findings()]
 
     def finding(self, sweep: Sweep, one: grouping.Finding, check: OracleCheck) -> Finding:
@@ -203,6 +210,9 @@ class Races:
         for cell in one.failing:
             result.note(NAME, Failure(failure.class_, failure.node, sweep.results.failures[cell]))
         result.scene = self.scene(event, one.first().move()[-1])
+        self.written += 1
+        words = write_earliest(self.place_of(self.written), sweep, one.first())
+        result.opened = shown_command(self.simulator, words)
         return result
 
     def scene(self, event: InputByte, value: int) -> Scene | None:
@@ -214,6 +224,19 @@ class Races:
         kept = dataclasses.replace(it, hex=it.hex[:4])
         trial = Trial(NAME, f"byte 1 of node {it.node} arrives at {value:,}", (Input(it.node, it.at, apart, kept.hex),))
         return Scene(kept.applied(self.document), self.until, trial)
+
+
+def in_rounds(visits: Sequence[Visit]) -> list[Visit]:
+    """Visits in rounds of one of each code, rare code first; of those of one code such that lie far apart."""
+    by_code: dict[frozenset[int], list[Visit]] = {}
+    for visit in visits:
+        by_code.setdefault(visit.addresses, []).append(visit)
+    keyed = [
+        (round_, len(group), visit.first, visit)
+        for group in by_code.values()
+        for round_, visit in enumerate(group[i] for i in spread(len(group)))
+    ]
+    return [visit for *_, visit in sorted(keyed, key=lambda it: it[:3])]
 
 
 def sweep_command(event: InputByte, span: tuple[int, int]) -> str:

@@ -22,10 +22,9 @@ MOST_TEXTS, MOST_LINES, MOST_CHANGES = 3, 8, 6
 def print_hunt(hunt: Hunt, corpus: Corpus, scenario: str, elf: Iterable[str]) -> None:
     """All that a hunt tells at its end; the scenarios of its findings are written."""
     print_tried(hunt)
-    corpus.clear()
     for number, finding in enumerate(hunt.findings, 1):
         if finding.scene:
-            finding.path = corpus.next_name(number)
+            finding.path = corpus.found(number)
             write_scene(finding.path, finding.scene, finding, os.path.dirname(scenario))
         print_finding(hunt, number, finding, scenario, list(elf))
     print(f"not covered: {'; '.join(not_covered(hunt))}", flush=True)
@@ -87,7 +86,7 @@ def commands(finding: Finding, scenario: str, elf: list[str]) -> list[str]:
     """The lines of a shell that open a finding."""
     words = [word for it in elf for word in ("-e", it)]
     if finding.command:
-        found = [f"avrora-tools sweep {shlex.quote(scenario)} {finding.command} {shlex.join(words)}".rstrip()]
+        found = [f"avrora-tools sweep {shlex.quote(scenario)} {finding.command} {shlex.join(words)}".rstrip(), finding.opened]
         if not finding.scene:
             return found
     else:

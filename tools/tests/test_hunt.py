@@ -1,0 +1,116 @@
+"""Hunts by the program that AVRORA_PROGRAM names: of the network of examples/races, and of examples/hunt."""
+import os
+import re
+import shutil
+import subprocess
+from pathlib import Path
+
+import pytest
+
+from support import TOP, run_tool
+
+EXAMPLES = Path(TOP) / "examples"
+PROGRAM = os.environ.get("AVRORA_PROGRAM")
+
+pytestmark = pytest.mark.skipif(not PROGRAM, reason="AVRORA_PROGRAM names no program")
+needs_compiler = pytest.mark.skipif(not shutil.which("avr-gcc"), reason="needs avr-gcc (Debian's gcc-avr)")
+
+# All that the sink writes once nothing is varied.
+EVENTS = "3a 3b 4c 4d 5e 5f 6g 6h 7i 7j 8k 8l".split()
+
+
+@pytest.fixture(scope="module")
+def folder(tmp_path_factory):
+    """A copy of both examples, with ELF files where the compiler is there."""
+    found = tmp_path_factory.mktemp("examples")
+    for name in ("races", "hunt"):
+        shutil.copytree(EXAMPLES / name, found / name)
+    shutil.copy2(EXAMPLES / "radio.h", found)
+    if shutil.which("avr-gcc"):
+        images = {path: path.read_bytes() for path in found.glob("hunt/*.hex")}
+        for words in (["races/build", "alarm"], ["hunt/build"]):
+            subprocess.run([found / words[0], *words[1:]], check=True, capture_output=True)
+        for path, content in images.items():
+            if path.read_bytes() != content:
+                pytest.fail(f"{path.name} is not what its source makes: run examples/hunt/build")
+    return found
+
+
+@pytest.fixture
+def at(folder, tmp_path, monkeypatch):
+    """Goes into one of the examples; a corpus of its own."""
+
+    def into(name):
+        monkeypatch.chdir(folder / name)
+        return ["--corpus", str(tmp_path / "corpus"), "--jobs", "2"]
+
+    return into
+
+
+def lines_of_sink(folder, scenario):
+    trace = subprocess.run([PROGRAM, "run", "--plain", scenario], cwd=folder, capture_output=True, text=True, check=True)
+    written = re.findall(r"^\d+ 0 serial ([0-9A-F]{2})$", trace.stdout, re.M)
+    return bytes.fromhex("".join(written)).decode().split("\n")[:-1]
+
+
+@pytest.mark.parametrize("name", ["gather", "gather-fixed"])
+def test_nothing_fails_in_the_lab(folder, name):
+    assert sorted(lines_of_sink(folder / "hunt", f"{name}.toml")) == EVENTS
+
+
+def test_the_same_seed_varies_the_same_and_what_is_found_fails(at, tmp_path):
+    words = ["hunt", "alarm.toml", *at("races"), "--until", "700_000", "--rounds", "1", "--only", "starts,cuts"]
+    status, out, err = run_tool(*words)
+    assert (status, err) == (1, "") and re.search(r"^  starts +12 tried", out, re.M)
+    found = sorted((tmp_path / "corpus").glob("found-*.toml"))
+    assert found and len(found) % 2 == 0
+    for path in found:
+        if "-right" not in path.name:
+            right = path.with_name(path.name.replace(".toml", "-right.toml"))
+            one, two = (lines_of_sink(path.parent, it.name) for it in (path, right))
+            assert one != two
+    shutil.rmtree(tmp_path / "corpus")
+    again = run_tool(*words)[1]
+    assert [without_times(text) for text in (out, again)] == [without_times(out)] * 2
+
+
+def without_times(text):
+    return re.sub(r"^[\d,]+ runs in .*", "", text, flags=re.M)
+
+
+def test_a_corpus_goes_on(at, tmp_path):
+    words = ["hunt", "alarm.toml", *at("races"), "--until", "700_000", "--rounds", "1", "--only", "cuts"]
+    first = run_tool(*words)[1]
+    kept = (tmp_path / "corpus" / "hunt.json").read_text()
+    count = kept.count('"kind"')
+    second = run_tool(*words)[1]
+    assert "has 0 trials" in first and f"has {count} trials" in second and '"rounds": 2' in (
+        tmp_path / "corpus" / "hunt.json"
+    ).read_text()
+
+
+def test_a_scenario_that_fails_unvaried_is_refused(at, tmp_path):
+    words = at("races")
+    case = tmp_path / "never.expect"
+    case.write_text('text 0 "never"\n')
+    status, _, err = run_tool("hunt", "alarm.toml", *words, "--expect", str(case))
+    assert status == 2 and "fails as it is, with nothing varied" in err
+
+
+@pytest.mark.parametrize(
+    "words", [["--until", "900_001"], ["--only", "starts,nothing"], ["--expect", "a", "--check", "b"], ["--nodes", "7"]]
+)
+def test_bad_words_have_status_two(at, words):
+    status, _, err = run_tool("hunt", "alarm.toml", *at("races"), *words)
+    assert status == 2 and err.count("\n") == 1
+
+
+@needs_compiler
+def test_arrivals_are_swept_where_handler_and_main_share_something(at):
+    words = ["hunt", "alarm.toml", "-e", "alarm.elf", *at("races"), "--until", "700_000", "--rounds", "4", "--only", "arrivals"]
+    status, out, err = run_tool(*words)
+    assert (status, err) == (1, "")
+    assert re.search(r"`enqueue` \(alarm\.c:2\d.*`queued`.* used here and in `USART0_RX_vect`", out)
+    command = re.search(r"^   (\S.* sweep .*race-\d\.toml.*)$|^   (.*avrora.*race-1\.toml.*)$", out, re.M)
+    assert command and subprocess.run(command[0].strip(), shell=True, capture_output=True, check=False).returncode == 0
+
