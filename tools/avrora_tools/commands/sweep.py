@@ -7,18 +7,21 @@ from collections.abc import Iterator, Sequence
 from contextlib import contextmanager
 from dataclasses import replace
 
+import avrora_tools
 from avrora_tools import cases, cli, files, programs, scenarios, shipping, toml
 from avrora_tools.errors import BadInput, BadWords, Status
+from avrora_tools.reporting import findings as page_findings
+from avrora_tools.reporting import sweep_sections
+from avrora_tools.reporting.findings import Search
 from avrora_tools.states import State
-from avrora_tools.sweeping import findings as grouping
 from avrora_tools.sweeping.cluster import WRITTEN, ClusterTails
 from avrora_tools.sweeping.events import InputByte, Move, Moved, MovedScenario, is_alone, moved_scenario, parsed_event
-from avrora_tools.sweeping.findings import Finding
 from avrora_tools.sweeping.plans import Cell
 from avrora_tools.sweeping.sharing import Sharing, objects_of
 from avrora_tools.sweeping.simulation import ProcessTails, Simulator, scenario_text
 from avrora_tools.sweeping.sweep import Options, Results, Sweep
 from avrora_tools.sweeping.rows import stops, written, written_before
+from avrora_tools.sweeping.telling import lines_of, search_of, shown_move, told
 from avrora_tools.sweeping.verdicts import (
     CaseCheck,
     Check,
@@ -50,8 +53,6 @@ names, and it is told where a failing run parts from one that passes.
 
 Status 0: no run fails; 1: one does; 2: the words or the files are bad."""
 
-MOST_SPANS = 4  # stretches of a finding that are told
-MOST_TEXTS = 3  # and kinds of failure
 BEFORE, BEHIND = 200, 2_000  # cycles of the window of the earliest failing run, about where its byte is noticed
 
 
@@ -63,12 +64,16 @@ def run(arguments: argparse.Namespace) -> int:
         print_plan(sweep)
         results = run_all(sweep, options)
         print_totals(sweep, results, options)
-        found = sweep.findings()
-        for number, finding in enumerate(found, 1):
-            print_finding(sweep, number, finding)
+        found = []
+        for number, finding in enumerate(sweep.findings(), 1):
+            found.append(told(sweep, finding))
+            print("\n".join(lines_of(number, found[-1])))
+        earliest = None
         if found and arguments.out:
-            command = write_earliest(arguments.out, sweep, found[0].first())
-            print(f"earliest: {shown_command(sweep.tails.simulator, command)}")
+            command = write_earliest(arguments.out, sweep, found[0].finding.first())
+            earliest = shown_command(sweep.tails.simulator, command)
+            print(f"earliest: {earliest}")
+        write_pages(arguments, sweep, search_of(sweep, options, found, [own_command(arguments)], earliest))
         if compares_nothing(sweep) and not results.failures:
             raise BadInput(
                 "nothing was compared: neither the run that is not moved nor a moved one writes anything to USART0 "
@@ -77,6 +82,25 @@ def run(arguments: argparse.Namespace) -> int:
                 "--expect or --check checks what is not written"
             )
     return Status.NOT_MET if results.failures else Status.GOOD
+
+
+def own_command(arguments: argparse.Namespace) -> str:
+    """A command that makes the sweep again."""
+    words = [word for option, value in arguments.moved for word in (f"--{option}", value)]
+    words += ["--until", str(arguments.until)] if arguments.until else []
+    words += ["-e", arguments.elf] if arguments.elf else []
+    words += ["--expect", arguments.expect] if arguments.expect else []
+    return shlex.join(["avrora-tools", "sweep", files.shown(arguments.scenario), *map(files.printable, words)])
+
+
+def write_pages(arguments: argparse.Namespace, sweep: Sweep, search: Search) -> None:
+    """The page, and the findings as data, where they are asked for."""
+    if arguments.html:
+        title = files.shown(os.path.basename(arguments.scenario))
+        text = sweep_sections.page(sweep, search, title, f"by avrora-tools {avrora_tools.__version__}")
+        files.write_whole(arguments.html, text)
+    if arguments.findings:
+        files.write_whole(arguments.findings, page_findings.written(search))
 
 
 @contextmanager
@@ -283,38 +307,6 @@ def print_totals(sweep: Sweep, results: Results, options: Options) -> None:
         print("this was a first look, which proves nothing: without --quick all classes are run")
 
 
-def print_finding(sweep: Sweep, number: int, finding: Finding) -> None:
-    spots = " and ".join(grouping.lines_of(finding.spots))
-    used = sweep.thing_in_use(finding)
-    texts = grouping.counted([sweep.results.failures[cell] for cell in finding.failing])
-    print(
-        f"{number}. {finding.failing_arrivals:,} of {finding.arrivals:,} arrivals while {spots}"
-        + (f"; {used}" if used else "")
-        + f": {texts[0][0]}"
-    )
-    for text, count in texts[1:MOST_TEXTS]:
-        print(f"   also ({count:,} classes): {text}")
-    if len(texts) > MOST_TEXTS:
-        print(f"   and {len(texts) - MOST_TEXTS:,} other failures")
-    stretches = grouping.spans(finding.failing)
-    told = ", ".join(
-        f"{first:,}" if first == last else f"{first:,} to {last:,}" for first, last in stretches[:MOST_SPANS]
-    )
-    more = len(stretches) - MOST_SPANS
-    print(f"   moves: {told}" + (f" and {more:,} more stretches" if more > 0 else ""))
-    if late := sweep.late(finding):
-        behind = late.cycle - sweep.scenario.until
-        print(f"   late: node {late.node} writes it in cycle {late.cycle:,}, {behind:,} behind the end of the run")
-        if late.wrong_at_last:
-            print(f"   a longer --until is no help: at {sweep.scenario.document['cycles']:,} {late.wrong_at_last}")
-    if parting := sweep.parting(finding):
-        print(f"   in run {shown_move(finding.first().move())} {parting}")
-
-
-def shown_move(move: Move) -> str:
-    return ", ".join(f"{value:,}" for value in move)
-
-
 def write_earliest(path: str, sweep: Sweep, cell: Cell) -> list[str]:
     """Writes the scenario of a failing run with a window about where its byte is noticed; a state and moves too where
     it needs them. Returns the words by which the simulator runs it."""
@@ -403,6 +395,8 @@ def configure(parser: argparse.ArgumentParser) -> None:
         help="write the earliest failing scenario, with a window about the arrival, and FILE.state and FILE.moves "
         "where it needs them",
     )
+    parser.add_argument("--html", metavar="FILE", help="write a page too: the findings, and which moves fail")
+    parser.add_argument("--findings", metavar="FILE", help="write the findings as JSON too, for `report`")
     parser.add_argument("--all", action="store_true", help="run each move, and not one of each class")
     parser.add_argument("--quick", action="store_true", help="a first look: not all classes are run")
     parser.add_argument(
