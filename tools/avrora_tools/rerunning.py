@@ -161,8 +161,8 @@ def show_traces(before: str, now: str, out: IO[str]) -> None:
 
 
 def show_lines(before: str, now: str, out: IO[str]) -> None:
-    texts = [text_of(path) for path in (before, now)]
-    shown = list(difflib.unified_diff(*texts, "the run before", "this run", lineterm="", n=2))
+    one, two = text_of(before), text_of(now)
+    shown = list(difflib.unified_diff(one, two, "the run before", "this run", lineterm="", n=2))
     for line in shown[:MOST_LINES]:
         out.write(files.printable(line) + "\n")
     if len(shown) > MOST_LINES:

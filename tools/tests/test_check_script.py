@@ -108,6 +108,7 @@ def test_links_and_pipes_deeper(place):
     assert sorted(os.listdir(place / "out")) == [
         ".check.sh",
         "SHA256SUMS",
+        "check.reports",
         "good.c",
         "good.elf",
         "good.expect",

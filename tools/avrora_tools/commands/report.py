@@ -5,7 +5,8 @@ import time
 
 import avrora_tools
 from avrora_tools import cli, expectations, files, programs, terminal
-from avrora_tools.errors import Status
+from avrora_tools.errors import BadWords, Status
+from avrora_tools.exports import coverage
 from avrora_tools.reporting import gathering, run_report
 from avrora_tools.reporting import findings as finding_pages
 from avrora_tools.reporting.case_sections import Checked
@@ -45,6 +46,7 @@ def configure(parser: argparse.ArgumentParser) -> None:
     parser.add_argument("--adopt", action="store_true", help="believe results that another user or machine wrote")
     parser.add_argument("--stacks", type=cli.window, metavar="A..B", help="the cycles of the flame graph, at most 20,000")
     parser.add_argument("--sources", metavar="FOLDER", help="show sources that lie below it")
+    parser.add_argument("--lcov", metavar="FILE", help="write which lines ran as a tracefile of lcov too (-e)")
     parser.add_argument("--no-sleep", action="store_true", help="do not look when nodes sleep, which takes many short runs")
     parser.add_argument("--hz", type=cli.positive, default=cli.CLOCK, help="cycles a second of the clock (%(default)s)")
     parser.add_argument(
@@ -56,6 +58,8 @@ def configure(parser: argparse.ArgumentParser) -> None:
 
 def run(arguments: argparse.Namespace) -> int:
     path = arguments.scenario
+    if arguments.lcov and not arguments.elf:
+        raise BadWords("--lcov wants the program (-e)")
     cases = [expectations.read_case(case) for case in arguments.expect]
     searches = [finding_pages.load(name) for name in arguments.findings]
     program = cli.simulator(arguments.avrora)
@@ -72,6 +76,8 @@ def run(arguments: argparse.Namespace) -> int:
     options = run_report.Options(arguments.hz, arguments.currents, arguments.sources, f"by avrora-tools {avrora_tools.__version__}")
     text = run_report.page(found, searches, statistics, options)
     files.write_whole(arguments.out, text)
+    if arguments.lcov:
+        files.write_whole(arguments.lcov, "".join(f"{line}\n" for line in coverage.written(gathering.covered_by(found))))
     tell(found, arguments.out, len(text.encode("utf-8", "surrogateescape")))
     return gathering.status_of(found)
 

@@ -6,9 +6,11 @@ from typing import NamedTuple
 
 from avrora_tools import showing
 from avrora_tools.reporting import palette
+from avrora_tools.reporting.markup import Html, tag
 
 BAR, GAP, LEFT, RIGHT, TOP, BOTTOM, LETTER = 16, 6, 60, 112, 34, 26, 6.6
 TICKS = 8
+PAGE_WIDTH = 720  # pixels of bars in a page
 ENTRY = 120  # pixels of the legend for each part
 
 
@@ -80,6 +82,11 @@ def drawn(bars: Sequence[Bar], unit: str, title: str, width: int = 900, is_part_
     for number, bar in enumerate(bars):
         out += bar_shapes(bar, unit, left, top + number * (BAR + GAP), across)
     return "\n".join(out) + "\n</svg>\n"
+
+
+def in_page(bars: Sequence[Bar], unit: str, title: str) -> Html:
+    """Bars as a part of a page, which scrolls where it is narrow."""
+    return tag("div", Html(drawn(bars, unit, title, PAGE_WIDTH, is_part_of_page=True)), class_="wide")
 
 
 def bar_shapes(bar: Bar, unit: str, left: int, y: int, across: float) -> list[str]:

@@ -155,8 +155,7 @@ def section(found: Statistics, command: str = "avrora-tools campaign --report RE
     if any(found.outcomes.values()):
         total = sum(found.outcomes.values())
         shares = [bars.Part(word, COLOURS[word], 100 * found.outcomes[word] / total) for word in runs.OUTCOMES if found.outcomes[word]]
-        drawn = bars.drawn([bars.Bar("runs", shares, f"{total:,}")], "%", "what runs came to", width=1000, is_part_of_page=True)
-        parts.append(Html(drawn))
+        parts.append(bars.in_page([bars.Bar("runs", shares, f"{total:,}")], "%", "what runs came to"))
     parts += [*histogram_place(found), *messages(found), tag("h3", "Runs"), runs_table(found)]
     return Section("campaign", f"Campaign {found.name}", [command], joined(parts))
 

@@ -8,7 +8,7 @@ from avrora_tools.exports import coverage, flames
 from avrora_tools.exports.walking import NodeCosts
 from avrora_tools.profiles import Taken
 from avrora_tools.reporting import pages, tables, timelines
-from avrora_tools.reporting.gathering import Gathered
+from avrora_tools.reporting.gathering import Gathered, covered_by
 from avrora_tools.reporting.markup import Content, Html, html, joined, tag
 from avrora_tools.reporting.pages import Section
 from avrora_tools.reporting.run_sections import command
@@ -61,25 +61,24 @@ def functions(run: Gathered) -> Section:
 
 
 def taken_table(name: str, what: str, taken: list[Taken], total: int, most: int) -> Html:
-    greatest = max((one.cycles for one in taken), default=1)
+    greatest = max((one.cycles for one in taken if one.rows is not None), default=1)
     rows: list[Row] = [
         [
             one.name, one.cycles, tables.Cell(f"{100 * one.cycles / max(1, total):.2f}%", one.cycles),
-            "" if one.rows is None else one.rows, bar_of(one.cycles, greatest, one.rows is None),
+            "" if one.rows is None else one.rows, bar_of(one.cycles, greatest) if one.cycles <= greatest else "",
         ]
         for one in taken[:most]
     ]  # fmt: skip
     more = pages.note(f"and {len(taken) - most:,} more") if len(taken) > most else Html("")
-    columns = [Column(what, "long"), *numbers("cycles", "of all", "instructions"), Column("")]
+    columns = [Column(what, "long"), *numbers("cycles", "of all", "instructions"), Column("", "meter")]
     return Html(tables.drawn(name, columns, rows, filter_words=f"show each {what} with") + more)
 
 
-def bar_of(part: int, greatest: int, is_rest: bool) -> Html:
+def bar_of(part: int, greatest: int) -> Html:
     width = 220
-    colour = "resting" if is_rest else "sent"
     return Html(
-        f'<svg class="meter" width="{width}" height="11" viewBox="0 0 {width} 11" aria-hidden="true">'
-        f'<rect class="fill-{colour}" width="{width * part / max(1, greatest):.1f}" height="11"/></svg>'
+        f'<svg width="{width}" height="11" viewBox="0 0 {width} 11" aria-hidden="true">'
+        f'<rect class="fill-sent" width="{width * part / max(1, greatest):.1f}" height="11"/></svg>'
     )
 
 
@@ -144,13 +143,9 @@ def covered(run: Gathered, source_folder: str | None) -> Section:
         "genhtml -o coverage run.info",
     ]
     parts: list[Html] = []
-    counts = coverage.Covered()
     for program in run.programs.all:
-        for node, spent in run.spent.items():
-            if run.programs.of(node) is program:
-                counts.add(program, {word: share.count for word, share in spent.at.items()})
         parts += [tag("h3", f"Instructions of {program.name} that ran"), program_table(run, program)]
-    parts += list(source_parts(counts, source_folder))
+    parts += list(source_parts(covered_by(run), source_folder))
     return Section("coverage", "Coverage", commands, joined(parts))
 
 
@@ -158,7 +153,7 @@ def program_table(run: Gathered, program: programs.Program) -> Html:
     ran = profiles.covered(run.spent, run.programs, program)
     rows: list[Row] = [[one.function.name, one.ran, one.of, tables.meter(one.ran, one.of, "good")] for one in ran]
     hit, every = sum(one.ran for one in ran), sum(one.of for one in ran)
-    columns = [Column("function", "long"), *numbers("ran", "of"), Column("")]
+    columns = [Column("function", "long"), *numbers("ran", "of"), Column("", "meter")]
     foot: list[Content] = ["all", hit, every, tables.meter(hit, every, "good").content]
     name = f"covered-{run.programs.all.index(program)}"
     return tables.drawn(name, columns, rows, foot, filter_words="show functions with")

@@ -5,15 +5,16 @@ import hashlib
 import os
 import subprocess
 import tempfile
-from collections.abc import Iterator, Sequence
+from collections.abc import Iterator
 from dataclasses import dataclass, field
 from typing import Any, NamedTuple
 
-from avrora_tools import budgets, drawings, expectations, files, profiles, programs, scenarios, shipping, toml, traces
+from avrora_tools import budgets, drawings, expectations, files, programs, scenarios, shipping, toml, traces
 from avrora_tools.budgets import Account, Table
 from avrora_tools.errors import BadInput, CannotWork, Status, ToolError
 from avrora_tools.events import End, Enter, Instr
 from avrora_tools.expectations import REFUSALS, Case, Outcome
+from avrora_tools.exports import coverage
 from avrora_tools.exports.walking import Functions, NodeCosts, StackReader
 from avrora_tools.fates import Reader
 from avrora_tools.listening import Radio, Selection
@@ -248,6 +249,15 @@ def busiest(drawing: drawings.Drawing) -> Window:
     return best * half, best * half + MAX_WINDOW
 
 
+def covered_by(found: Gathered) -> coverage.Covered:
+    """How often the instructions of the programs were executed."""
+    counts = coverage.Covered()
+    for node, spent in found.spent.items():
+        if program := found.programs.of(node):
+            counts.add(program, {word: share.count for word, share in spent.at.items()})
+    return counts
+
+
 # ---- cases
 
 
@@ -267,7 +277,3 @@ def status_of(found: Gathered) -> Status:
     """The status of a report: a case that is not met, or a sample that is not what the sends give."""
     worst = max((one.outcome.status for one in found.cases), default=Status.GOOD)
     return max(worst, Status.NOT_MET if found.reader.faults else Status.GOOD)
-
-
-def functions_of(found: Gathered) -> Sequence[profiles.Taken]:
-    return profiles.by_name(found.spent, profiles.Names(found.programs).function)

@@ -5,7 +5,7 @@
 function makeHistogram(data) {
   const place = document.getElementById("histogram"), status = document.getElementById("histogram-status");
   const parameter = document.getElementById("histogram-parameter"), outcome = document.getElementById("histogram-outcome");
-  const SVG = "http://www.w3.org/2000/svg", HIGH = 280, TOP = 14, LEFT = 62, BOTTOM = 64, RUNS = "runs by what they came to";
+  const SVG = "http://www.w3.org/2000/svg", HIGH = 280, TOP = 14, LEFT = 62, RUNS = "runs by what they came to";
   const made = (name, attributes, text = "") => {
     const element = document.createElementNS(SVG, name);
     for (const key in attributes) element.setAttribute(key, attributes[key]);
@@ -24,14 +24,15 @@ function makeHistogram(data) {
     const { name, bins } = data.parameters[parameter.value], width = Math.max(300, place.clientWidth), isRuns = outcome.value === RUNS;
     const sum = bin => Object.values(bin.outcomes).reduce((a, b) => a + b, 0), measure = bin => bin.measures[outcome.value];
     const greatest = Math.max(isRuns ? 1 : 1e-9, ...bins.map(bin => isRuns ? sum(bin) : measure(bin) ? measure(bin)[1] : 0));
-    const svg = made("svg", { viewBox: `0 0 ${width} ${TOP + HIGH + BOTTOM}`, role: "img", "font-size": 11,
+    const wide = (width - LEFT - 10) / bins.length, slanted = bins.some(bin => bin.label.length * 6.4 > wide - 4);
+    const svg = made("svg", { viewBox: `0 0 ${width} ${TOP + HIGH + (slanted ? 76 : 24)}`, role: "img", "font-size": 11,
       "aria-label": `${outcome.value} by ${name}` });
-    const y = value => TOP + HIGH - value / greatest * HIGH, wide = (width - LEFT - 10) / bins.length;
+    const y = value => TOP + HIGH - value / greatest * HIGH;
     for (const tick of ticks(greatest)) {
       svg.append(made("line", { class: "grid", x1: LEFT, x2: width - 10, y1: y(tick), y2: y(tick) }));
       svg.append(made("text", { x: LEFT - 6, y: y(tick) + 4, "text-anchor": "end" }, shown(tick)));
     }
-    const bar = Math.max(2, Math.min(60, wide * 0.76)), slanted = bins.some(bin => bin.label.length * 6.4 > wide - 4);
+    const bar = Math.max(2, Math.min(60, wide * 0.76));
     bins.forEach((bin, number) => {
       const x = LEFT + number * wide + (wide - bar) / 2, middle = x + bar / 2;
       const group = made("g", {}), words = [];

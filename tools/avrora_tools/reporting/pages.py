@@ -83,9 +83,9 @@ def section(part: Section) -> Html:
 
 
 def header(title: str, kind: str, facts: Sequence[tuple[str, str]], by: str) -> Html:
-    """The head of a page: what it is of, and the facts that are wanted first."""
+    """The head of a page: what it is of, and the facts that are wanted first; one whose name ends in ! is a warning."""
     cards = joined(
-        tag("div", tag("b", value), tag("span", what), class_="card" + (" warns" if what.endswith("!") else ""))
+        tag("div", tag("b", value), tag("span", what.removesuffix("!")), class_="card" + (" warns" if what.endswith("!") else ""))
         for what, value in facts
     )
     return tag("header", tag("p", kind, class_="kind"), tag("h1", title), tag("div", cards, class_="cards"), tag("p", by, class_="by"))

@@ -22,6 +22,7 @@ MOST_TEXT = 500_000  # characters of all logs
 LINE_OVERHEAD = 110  # characters of HTML about a line
 MOST_APART = 4  # nodes that write have a log each; more have one together
 MOST_BYTES = 48  # of an input that are shown
+FEW_INPUTS = 8  # are shown at once
 OPENED_LINES = 12  # a node with so many shows them at once
 
 
@@ -52,7 +53,7 @@ def what_was_run(run: Gathered, hz: int) -> Section:
     version, _, digest = run.program.partition("\n")
     facts = [
         ("scenario", Html(html(files.shown(run.path)) + " " + code(run.sha256))),
-        ("simulator", Html(html(version) + " " + code(digest))),
+        ("simulator", Html(html(version) + " " * bool(version) + code(digest))),
         ("cycles", f"{scenario.cycles:,} ({seconds(scenario.cycles, hz)} at {hz:,} Hz)"),
         ("a byte is on the air for", f"{scenario.byte_time:,} cycles ({seconds(scenario.byte_time, hz)})"),
         ("latency of links", latencies(run)),
@@ -60,7 +61,7 @@ def what_was_run(run: Gathered, hz: int) -> Section:
     ]
     facts_list = tag("dl", *(Html(tag("dt", name) + tag("dd", html(value))) for name, value in facts), class_="facts")
     content = joined([facts_list, tag("h3", "Images"), images, tag("h3", "Input to USART0"), inputs(run)])
-    return Section("run", "What was run", [shlex.join(["avrora", "run", files.shown(run.path)])], content)
+    return Section("run", "What was run", [shlex.join(["avrora", "run", files.shown(run.path)]) + " >TRACE"], content)
 
 
 def latencies(run: Gathered) -> str:
@@ -80,7 +81,8 @@ def inputs(run: Gathered) -> Html:
     if not rows:
         return pages.note("Nothing arrives at any node.")
     columns = [*numbers("node", "from cycle", "cycles apart", "bytes"), Column("hexadecimal", "long"), Column("text", "long")]
-    return tables.drawn("inputs", columns, rows, filter_words="show inputs with")
+    table = tables.drawn("inputs", columns, rows, filter_words="show inputs with")
+    return table if len(rows) <= FEW_INPUTS else tag("details", tag("summary", f"{len(rows)} nodes have input"), table)
 
 
 # ---- what came
@@ -90,18 +92,19 @@ def what_came(run: Gathered, hz: int) -> Section:
     lanes, reader = run.drawing.lanes, run.reader
     rows: list[Row] = []
     sums = [0] * 6
+    has_stops = any(lane.stop for lane in lanes.values())
     for node in range(len(run.scenario.images)):
         lane, end = lanes.get(node, Lane()), run.ended[node]
         heard = [reader.samples[node, status] for status in (NOTHING, ONE_BYTE, CLASH)]
         stop: Content = joined((Html(at(cycle, node) + html(f" {cause}")) for cycle, cause in lane.stop), ", ") if lane.stop else ""
         counts = [reader.sends[node], *heard, len(lane.serial), end.instructions]
         sums = [one + other for one, other in zip(sums, counts)]
-        rows.append([node, run.drawing.name(node).partition(" ")[2], *counts, end.state, stop])
+        rows.append([node, run.drawing.name(node).partition(" ")[2], *counts, end.state, *([stop] if has_stops else [])])
     columns = [
         *numbers("node"), Column("image"), *numbers("sent", "heard nothing", "heard a byte", "heard a clash", "to USART0", "instructions"),
-        Column("at the end"), Column("stopped", "long"),
+        Column("at the end"), *([Column("stopped", "long")] if has_stops else []),
     ]  # fmt: skip
-    table = tables.drawn("nodes", columns, rows, ["all", "", *sums, "", ""], filter_words="show nodes with")
+    table = tables.drawn("nodes", columns, rows, ["all", "", *sums, ""], filter_words="show nodes with")
     parts = [table, *faults_of(run), *clashes_of(run), tag("h3", "What nodes wrote to USART0"), *serial_of(run, hz)]
     commands = [
         command("links", "--clashes", run.path, "TRACE"),
@@ -197,14 +200,14 @@ def links(run: Gathered) -> Section:
     if not qualities:
         return Section("links", "Links", commands, pages.note("The scenario has no link."))
     picture = Html(maps.drawn(maps.placed(len(run.scenario.images), list(qualities)), qualities, is_part_of_page=True))
+    has_spans = any(link.spans is not None for link in run.scenario.links)
     rows: list[Row] = []
     for link in sorted(run.scenario.links):
         ends = link.sender, link.hearer
         clean, sent = counts[ends, "clean"], counts[ends, "sent"]
-        spans = "" if link.spans is None else f"{len(link.spans):,} spans"
-        rows.append(
-            [link.sender, link.hearer, *(counts[ends, fate] for fate in FATES), tables.meter(clean, sent, "sent"), link.latency, spans]
-        )
+        rows.append([link.sender, link.hearer, *(counts[ends, fate] for fate in FATES), tables.meter(clean, sent), link.latency])
+        if has_spans:
+            rows[-1] = [*rows[-1], "always" if link.spans is None else f"{len(link.spans):,} spans"]
     columns = [
         *numbers("from", "to"),
         Column("sent", "n", "by the node at its head"),
@@ -212,14 +215,14 @@ def links(run: Gathered) -> Section:
         Column("clean", "n", "heard alone by a sample at least"),
         Column("clashed", "n", "heard by samples, but never alone"),
         Column("unheard", "n", "by no sample"),
-        Column("clean of sent"),
+        Column("clean of sent", "meter"),
         *numbers("latency"),
-        Column("open"),
+        *([Column("open")] if has_spans else []),
     ]
     table = tables.drawn("quality", columns, rows, filter_words="show links with")
     odd = maps.oddities(len(run.scenario.images), list(qualities))
     notes = [tag("ul", *(tag("li", line) for line in odd))] if odd else []
-    return Section("links", "Links", commands, Html(tag("div", tag("div", picture, *notes), table, class_="columns links")))
+    return Section("links", "Links", commands, Html(tag("div", tag("div", tag("div", picture, class_="wide"), *notes), table, class_="columns links")))
 
 
 # ---- energy
@@ -252,7 +255,7 @@ def energy(run: Gathered, currents: str | None) -> Section:
 
 
 def bar_picture(rows: Sequence[Bar], unit: str, title: str) -> Html:
-    return Html(bars.drawn(rows, unit, title, width=1000, is_part_of_page=True))
+    return bars.in_page(rows, unit, title)
 
 
 def spent_table(run: Gathered) -> Html:

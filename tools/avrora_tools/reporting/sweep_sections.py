@@ -8,7 +8,7 @@ from avrora_tools.reporting.markup import Html, joined, tag
 from avrora_tools.reporting.pages import Section
 from avrora_tools.sweeping.sweep import Sweep
 
-WIDTH, HIGH, LEFT, RIGHT = 1000, 34, 10, 10
+WIDTH, LEFT, RIGHT = bars.PAGE_WIDTH, 34, 34
 
 
 class Stretch(NamedTuple):
@@ -61,7 +61,7 @@ def strip(every: list[Stretch]) -> Html:
         tick += int(step)
     svg = f'<svg viewBox="0 0 {WIDTH} 60" class="bars" role="img" aria-label="which moves fail" font-size="11">{"".join(shapes)}</svg>'
     keys = tag("p", *(key(state) for state in STATES if any(one.state == state for one in every)), class_="keys")
-    return Html(svg + keys)
+    return Html(tag("div", Html(svg), class_="wide") + keys)
 
 
 def key(state: str) -> Html:

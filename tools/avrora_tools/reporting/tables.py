@@ -68,11 +68,11 @@ def percent(part: float, whole: float) -> Cell:
     return Cell(f"{100 * share:.1f}%" if whole else "", share if whole else -1.0)
 
 
-def meter(part: float, whole: float, colour: str = "sent", width: int = 110) -> Cell:
+def meter(part: float, whole: float, colour: str = "sent", width: int = 80) -> Cell:
     """The same as a bar that has its number behind it."""
     share = min(1.0, part / whole) if whole else 0.0
     bar = (
-        f'<svg class="meter" width="{width}" height="11" viewBox="0 0 {width} 11" aria-hidden="true">'
+        f'<svg width="{width}" height="11" viewBox="0 0 {width} 11" aria-hidden="true">'
         f'<rect class="fill-rule" width="{width}" height="11"/><rect class="fill-{colour}" width="{width * share:.1f}" height="11"/></svg>'
     )
     return Cell(Html(f"{bar} {100 * share:.1f}%" if whole else ""), share if whole else -1.0)
