@@ -116,9 +116,13 @@ def test_a_shape_of_mknet_lies_as_it_is_called(shape, count):
 
 def test_another_network_is_turned_upright():
     pairs = [pair for pair in pairs_of("grid:4", 16) if pair != (5, 6)]
-    places = placed(16, pairs)
-    off = [abs(math.remainder(math.atan2(places[b][1] - places[a][1], places[b][0] - places[a][0]), math.pi / 2)) for a, b in pairs]
-    assert sum(off) / len(off) < 0.12
+
+    def off(places):
+        """How far links are turned away from level and upright, in the mean."""
+        angles = [math.atan2(places[b][1] - places[a][1], places[b][0] - places[a][0]) for a, b in pairs]
+        return sum(abs(math.remainder(angle, math.pi / 2)) for angle in angles) / len(pairs)
+
+    assert off(placed(16, pairs)) < min(0.16, off(laid_out(16, pairs)) / 2)
     tilted = [(x * math.cos(0.4) - y * math.sin(0.4), x * math.sin(0.4) + y * math.cos(0.4)) for x, y in shape_places("grid:3", 9, 0)]
     for a, b in pairs_of("grid:3", 9):
         (x, y), (end_x, end_y) = (upright(tilted, pairs_of("grid:3", 9))[node] for node in (a, b))

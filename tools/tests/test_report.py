@@ -15,8 +15,8 @@ from support import TOP, run_tool
 pytest.importorskip("elftools", reason="needs elftools (Debian's python3-pyelftools)")
 pytestmark = [needs_program, needs_compiler]
 
-EXAMPLES = ("blink", "echo", "flood", "hello", "packet", "relay", "sort")
-RACES = ("wake", "torn", "ring", "data")
+EXAMPLES = ("blink", "echo", "flood", "hello", "packet", "relay")
+RACES = ("alarm", "data", "ring", "torn", "wake")
 
 
 def place_of(tmp_path, *names):
@@ -149,6 +149,21 @@ def test_call_stacks_are_those_of_export(tmp_path):
 
 def tree_sum(entries):
     return sum(own + tree_sum(below) for _, own, below in entries)
+
+
+def test_coverage_is_that_of_export(tmp_path):
+    place = place_of(tmp_path, "packet")
+    elf = built(place, "packet")
+    _, page, _ = report(place, "packet", "-e", elf, "--no-sleep", "--lcov", place / "own.info")
+    os.system(f"cd '{place}' && '{PROGRAM}' monitor packet.toml 0 737280 > profile")
+    words = ["-s", str(place / "packet.toml"), "-e", f"0-2={elf}", str(place / "profile")]
+    status, out, err = run_tool("export", "lcov", *words)
+    assert status == 0 and (place / "own.info").read_text() == out, err
+    ran = re.findall(r"(?m)^LF:(\d+)\nLH:(\d+)$", out)
+    assert all(f"{hit} of {of} lines ran" in page.text for of, hit in ran) and len(ran) > 1
+    counts = dict(re.findall(r"(?m)^DA:(\d+),(\d+)$", out.partition("/packet.c\n")[2].partition("end_of_record")[0]))
+    (source,) = [table for table in page.tables.values() if any("int main" in row[2] for row in table if len(row) == 3)]
+    assert {row[0]: row[1].replace(",", "") for row in source if row[1]} == counts
 
 
 def test_sleep_is_that_of_monitor(tmp_path):

@@ -115,6 +115,22 @@ def section(search: Search, name: str = "findings", has_timeline: bool = False) 
     return Section(name, search.title, search.commands, joined([facts, *notes, *shown]))
 
 
+def page(
+    search: Search,
+    title: str,
+    kind: str,
+    by: str,
+    cards: Sequence[tuple[str, str]] = (),
+    more: Sequence[Section] = (),
+    rules: str = "",
+) -> str:
+    """A page of what was found alone: what it is of (`title`), by which search (`kind`), by whom; `cards` are what is wanted
+    first, beside the number of findings, `more` are parts below the findings, which need the style `rules`."""
+    found = [("findings" + "!" * bool(search.findings), f"{len(search.findings):,}"), *cards]
+    body = joined([pages.header(title, kind, found, by), pages.sections([section(search), *more])])
+    return pages.page(title, body, styles=["page.css"], scripts=["page.js"], data={}, name="report", rules=rules)
+
+
 def article(number: int, one: Finding, has_timeline: bool) -> Html:
     share = f"{one.count:,} of {one.of:,}" if one.count is not None and one.of is not None else ""
     rows = [("where", html(one.where))] if one.where else []

@@ -2,9 +2,9 @@
 from fractions import Fraction
 from typing import NamedTuple
 
-from avrora_tools.reporting import bars, findings, pages
+from avrora_tools.reporting import bars, findings
 from avrora_tools.reporting.findings import Search
-from avrora_tools.reporting.markup import Html, joined, tag
+from avrora_tools.reporting.markup import Html, tag
 from avrora_tools.reporting.pages import Section
 from avrora_tools.sweeping.sweep import Sweep
 
@@ -74,15 +74,12 @@ def page(sweep: Sweep, search: Search, scenario: str, by: str) -> str:
     """A page of a sweep."""
     results = sweep.results
     cards = [
-        ("findings" + "!" * bool(search.findings), f"{len(search.findings)}"),
         ("moves", f"{sum(len(cell.arrivals.moves) for cell in sweep.cells):,}"),
         ("classes", f"{len(sweep.cells):,}"),
         ("classes that fail" + "!" * bool(results.failures), f"{len(results.failures):,}"),
         ("runs", f"{results.runs:,}"),
         ("seconds", f"{results.seconds:.1f}"),
     ]
-    parts = [findings.section(search)]
-    if every := stretches(sweep):
-        parts.append(Section("moves", "Which moves fail", [], strip(every)))
-    body = joined([pages.header(scenario, "a sweep of avrora", cards, by), pages.sections(parts)])
-    return pages.page(scenario, body, styles=["page.css"], scripts=["page.js"], data={}, name="report", rules=bars.fills())
+    every = stretches(sweep)
+    more = [Section("moves", "Which moves fail", [], strip(every))] if every else []
+    return findings.page(search, scenario, "a sweep of avrora", by, cards, more, bars.fills())
