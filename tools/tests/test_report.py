@@ -52,7 +52,8 @@ def test_numbers_are_those_of_the_other_tools(name, tmp_path):
     place = place_of(tmp_path, name)
     elf = built(place, name)
     scenario, trace, profile = (str(place / f"{name}.{ending}") for ending in ("toml", "trace", "profile"))
-    _, page, _ = report(place, name, "-e", elf, "--currents", f"{TOP}/examples/currents.toml", "--no-sleep")
+    words = ["-e", elf, "--currents", f"{TOP}/examples/currents.toml", "--no-sleep", "--stacks", "2_000..5_000"]
+    _, page, _ = report(place, name, *words)
     check_against_tools(page, place, scenario, trace, profile, elf)
 
 
@@ -95,7 +96,7 @@ def test_a_network_of_64(tmp_path):
     assert status == 0, err
     (place / "net.toml").write_text(out)
     scenario, trace, profile = (str(place / f"net.{ending}") for ending in ("toml", "trace", "profile"))
-    words = ["-e", f"0-63={elf}", "--currents", f"{TOP}/examples/currents.toml", "--always-listening", "--no-sleep"]
+    words = ["-e", f"0-63={elf}", "--currents", f"{TOP}/examples/currents.toml", "--always-listening", "--no-sleep", "--stacks", "10_000..12_000"]
     _, page, _ = report(place, "net", *words)
     assert len(page.text) < pages.LARGEST_PAGE
     name = os.path.basename(scenario)

@@ -74,6 +74,7 @@ class Wishes:
     sleep: bool = True
 
 
+MOST_VERSION = 200  # characters of what the simulator says of itself
 MOST_CLASHES = 200  # that are told one by one
 
 
@@ -175,7 +176,7 @@ def told_of(simulator: Simulator) -> str:
     """What the simulator says of its version, and which program it is."""
     version = ""
     with contextlib.suppress(ToolError):
-        version = simulator.call("--version").decode(errors="replace").strip()
+        version = simulator.call("--version").decode(errors="replace").strip().partition("\n")[0][:MOST_VERSION]
     digest = ""
     with contextlib.suppress(ToolError):
         digest = hashlib.sha256(shipping.program(simulator.program)).hexdigest()

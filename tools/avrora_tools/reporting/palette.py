@@ -22,9 +22,9 @@ COLOURS = {
     # what nodes do
     "sent": Colour("#0072b2", "#4aa3df"),
     "heard": Colour("#00805c", "#2fc29a"),
-    "clash": Colour("#cc4f00", "#ff8b47"),
+    "clash": Colour("#c74c00", "#ff8b47"),
     "quiet": Colour("#aeb6c1", "#5d6877"),
-    "serial": Colour("#8a5a00", "#e6ad45"),
+    "serial": Colour("#553c00", "#ffe38f"),
     "asleep": Colour("#d5dcea", "#2d3950"),
     "enter": Colour("#a0447a", "#e291bf"),
     "window": Colour("#d9a400", "#f0c93a"),
@@ -32,7 +32,7 @@ COLOURS = {
     "stopped": Colour("#e3e5e9", "#2b2f37"),
     "stop": Colour("#000000", "#ffffff"),
     # what draws current
-    "awake": Colour("#cc4f00", "#ff8b47"),
+    "awake": Colour("#c74c00", "#ff8b47"),
     "sending": Colour("#0072b2", "#4aa3df"),
     "listening": Colour("#56b4e9", "#8fd0f5"),
     "resting": Colour("#a9b8d0", "#5a6c8c"),
@@ -40,7 +40,7 @@ COLOURS = {
     "unknown": Colour("#c8ccd2", "#4c535e"),
     # what came of a run
     "good": Colour("#00805c", "#2fc29a"),
-    "bad": Colour("#cc4f00", "#ff8b47"),
+    "bad": Colour("#c74c00", "#ff8b47"),
     "broken": Colour("#a0447a", "#e291bf"),
     # how well a link does, from nothing to all
     "link0": Colour("#a83200", "#ff7a3d"),

@@ -72,4 +72,4 @@ def page(run: Gathered, searches: Sequence[Search], statistics: Statistics | Non
 
     names = code_sections.names_of(run)
     room = pages.LARGEST_PAGE - len(showing.encoded(text({})))
-    return text(timelines.fitted(run.drawing, None, names, room))
+    return text(timelines.fitted(run.drawing, None, names, room, f"in `avrora-tools timeline` {timelines.ADVICE}"))

@@ -57,6 +57,7 @@ def what_was_run(run: Gathered, hz: int) -> Section:
         ("cycles", f"{scenario.cycles:,} ({seconds(scenario.cycles, hz)} at {hz:,} Hz)"),
         ("a byte is on the air for", f"{scenario.byte_time:,} cycles ({seconds(scenario.byte_time, hz)})"),
         ("latency of links", latencies(run)),
+        ("rows of the trace", f"{run.rows:,}"),
         ("window of instructions", f"{scenario.window[0]:,} to {scenario.window[1]:,}" if any(scenario.window) else "none"),
     ]
     facts_list = tag("dl", *(Html(tag("dt", name) + tag("dd", html(value))) for name, value in facts), class_="facts")

@@ -71,11 +71,15 @@ def content(
     }
 
 
-def fitted(drawing: Drawing, hz: int | None, names: Names, most: int) -> dict[str, object]:
-    """The data, thinned to at most so many bytes of a page; the user is told."""
+# What draws more than a page that is thinned has.
+ADVICE = "--from, --to and --nodes draw less, and all of it"
+
+
+def fitted(drawing: Drawing, hz: int | None, names: Names, most: int, advice: str = ADVICE) -> dict[str, object]:
+    """The data, thinned to at most so many bytes of a page; the user is told, with what draws more."""
     thinning = drawings.least_thinning(drawing, most - len(showing.script_data(content(drawing, hz, names))))
     if thinning.step:
-        terminal.warn(f"{thinning}; --from, --to and --nodes draw less, and all of it")
+        terminal.warn(f"{thinning}; {advice}")
     return content(drawing, hz, names, thinning)
 
 
