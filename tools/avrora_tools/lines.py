@@ -37,8 +37,8 @@ def shown(data: bytes) -> str:
 
 
 class Lines:
-    """Makes lines of bytes as they come, and gives each to `put` as it ends: with LF, CR or CR LF, and where the node is
-    silent for long. An empty line is one; with a `length` all bytes are data, and a line has so many."""
+    """Makes lines of bytes as they come, and gives each to `put` as it ends: with LF, CR or CR LF, and where the node
+    is silent for long. An empty line is one; with a `length` all bytes are data, and a line has so many."""
 
     def __init__(self, put: Callable[[Line], None], silence: int = SILENCE, length: int | None = None) -> None:
         self.put, self.silence, self.length = put, silence, length

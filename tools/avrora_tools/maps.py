@@ -159,8 +159,8 @@ def laid_out(count: int, links: Iterable[Ends]) -> list[Point]:
 
 
 def placed(count: int, links: Iterable[Ends]) -> list[Point]:
-    """Places for the nodes of a network: where links make a grid, a line, a ring or a star of mknet, the places of that; else
-    as `laid_out` has them, turned so that most links lie level or upright."""
+    """Places for the nodes of a network: where links make a grid, a line, a ring or a star of mknet, the places of
+    that; else as `laid_out` has them, turned so that most links lie level or upright."""
     pairs = sorted({(min(ends), max(ends)) for ends in links})
     if shape := shape_of(count, pairs):
         return shape_places(shape, count, 0)
@@ -170,7 +170,8 @@ def placed(count: int, links: Iterable[Ends]) -> list[Point]:
 def shape_of(count: int, pairs: Sequence[Ends]) -> str | None:
     """The shape of mknet that has these pairs of linked nodes, if any."""
     widths = range(2, count // 2 + 1)
-    shapes = ["line", *(f"grid:{width}" for width in widths), *(f"torus:{width}" for width in widths if count % width == 0)]
+    shapes = ["line", *(f"grid:{width}" for width in widths)]
+    shapes += [f"torus:{width}" for width in widths if count % width == 0]
     shapes += ["ring", "star"] if count > 3 else []
     return next((shape for shape in shapes if count > 1 and networks.pairs_of(shape, count) == list(pairs)), None)
 
@@ -226,8 +227,9 @@ UNUSED = "unused"
 WIDTHS = {"link4": 1.6, "link3": 1.8, "link2": 2.2, "link1": 2.6, "link0": 3.0, UNUSED: 1.0}
 
 RULES: list[palette.Rule] = [
-    (".paper", "fill", "paper"), (".map text", "fill", "ink"), (".node circle", "fill", "paper"), (".node circle", "stroke", "ink"),
-    (".alone circle", "stroke", "bad"), (".number", "stroke", "paper"),
+    (".paper", "fill", "paper"), (".map text", "fill", "ink"),
+    (".node circle", "fill", "paper"), (".node circle", "stroke", "ink"), (".alone circle", "stroke", "bad"),
+    (".number", "stroke", "paper"),
     *((f".{name}", "stroke", name) for name in WIDTHS), *((f".tip-{name}", "fill", name) for name in WIDTHS),
 ]  # fmt: skip
 MORE = (
@@ -270,7 +272,8 @@ def drawn(places: Sequence[Point], links: Mapping[Ends, Quality], is_part_of_pag
     height = high + LEGEND
     size = "" if is_part_of_page else f'width="{SIZE}" height="{height:.0f}" '
     out = [
-        f'<svg xmlns="http://www.w3.org/2000/svg" class="map" viewBox="0 {low:.0f} {SIZE} {height:.0f}" {size}role="img" '
+        f'<svg xmlns="http://www.w3.org/2000/svg" class="map" viewBox="0 {low:.0f} {SIZE} {height:.0f}" '
+        f'{size}role="img" '
         'aria-label="map of the network" font-family="DejaVu Sans,sans-serif" font-size="11">'
     ]
     if not is_part_of_page:
@@ -285,7 +288,8 @@ def drawn(places: Sequence[Point], links: Mapping[Ends, Quality], is_part_of_pag
     for node, (x, y) in enumerate(at):
         title = f"node {node}: nothing reaches it" if node in alone else f"node {node}"
         out.append(
-            f'<g class="node{" alone" * (node in alone)}"><title>{title}</title><circle cx="{x:.1f}" cy="{y:.1f}" r="{RADIUS}"/>'
+            f'<g class="node{" alone" * (node in alone)}"><title>{title}</title><circle cx="{x:.1f}" cy="{y:.1f}" '
+            f'r="{RADIUS}"/>'
             f'<text x="{x:.1f}" y="{y + 4:.1f}" text-anchor="middle">{node}</text></g>'
         )
     return "\n".join(out + legend(low + high)) + "\n</svg>\n"

@@ -44,7 +44,8 @@ class Picture:
         self.height = TOP + self.step * len(self.nodes) + BOTTOM + LEGEND_ROW * (len(self.legend) - 1)
         self.bottom = TOP + self.step * len(self.nodes)
         self.scale = (width - self.margin - RIGHT) / max(1, drawing.last_cycle - drawing.first)
-        self.count = sum(lane.count(*(kind for kind in drawings.FIELDS if kind != "lines")) for lane in drawing.lanes.values())
+        kinds = [kind for kind in drawings.FIELDS if kind != "lines"]
+        self.count = sum(lane.count(*kinds) for lane in drawing.lanes.values())
         self.titled = self.count <= MAX_TITLED
         self.out: list[str] = []
 
@@ -149,13 +150,14 @@ class Picture:
             is_told = any(first <= cycle <= last for first, last in spoken) or spoken and byte in (lines.CR, lines.LF)
             if not is_told:
                 self.add(
-                    f'<circle class="serial" cx="{self.x(cycle)}" cy="{y + high * .54:.1f}" r="{min(2.4, high * .18):.1f}"',
+                    f'<circle class="serial" cx="{self.x(cycle)}" cy="{y + high * .54:.1f}" '
+                    f'r="{min(2.4, high * .18):.1f}"',
                     f"{cycle:,}: node {node} wrote {cli.shown_byte(byte)} to USART0",
                 )
 
     def draw_lines(self, lane: Lane, y: int, high: int) -> Iterator[tuple[int, int]]:
-        """Lines of USART0 as texts, where there is room behind them and their bytes lie close together; of each the cycles
-        of its first byte and of its last one."""
+        """Lines of USART0 as texts, where there is room behind them and their bytes lie close together; of each the
+        cycles of its first byte and of its last one."""
         size = min(10, high * 0.3)
         letter = size * MONOSPACE
         for at, (cycle, cycles, text) in enumerate(lane.lines):
@@ -168,7 +170,8 @@ class Picture:
     def add_text(self, text: str, x: float, y: float, size: float, title: str) -> None:
         shown = showing.markup(text)
         self.out.append(
-            f'<text class="said" x="{x}" y="{y:.1f}" font-size="{size:g}">{shown}<title>{showing.markup(title)}</title></text>'
+            f'<text class="said" x="{x}" y="{y:.1f}" font-size="{size:g}">{shown}<title>{showing.markup(title)}'
+            '</title></text>'
         )
 
     def tick(self, name: str, cycle: int, top: float, bottom: float, title: str) -> None:

@@ -336,8 +336,8 @@ class Taken(NamedTuple):
 
 
 def by_name(spent: Mapping[int, Spent], name_of: Namer) -> list[Taken]:
-    """Cycles by name, most first, and then what belongs to no instruction; `name_of(node, word)` names what an instruction
-    belongs to."""
+    """Cycles by name, most first, and then what belongs to no instruction; `name_of(node, word)` names what an
+    instruction belongs to."""
     cycles: collections.Counter[str] = collections.Counter()
     counts: collections.Counter[str] = collections.Counter()
     for node, one in spent.items():

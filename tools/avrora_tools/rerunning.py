@@ -90,14 +90,17 @@ class Rerun:
     def __enter__(self) -> "Rerun":
         return self
 
-    def __exit__(self, kind: type[BaseException] | None, fault: BaseException | None, trace: TracebackType | None) -> None:
+    def __exit__(
+        self, kind: type[BaseException] | None, fault: BaseException | None, trace: TracebackType | None
+    ) -> None:
         self.folder.cleanup()
 
     def path(self, count: int) -> str:
         return os.path.join(self.folder.name, f"{count % 2}")
 
     def run(self, out: IO[str]) -> int:
-        """Runs the command; shows what it writes the first time, and then what differs from the time before. Its status."""
+        """Runs the command; shows what it writes the first time, and then what differs from the time before. Its
+        status."""
         begun = time.monotonic()
         status = self.called()
         self.count += 1

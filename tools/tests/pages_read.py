@@ -83,7 +83,10 @@ def number(text):
 
 def check_policy(page):
     """The page names its script and its style by their hashes, fetches nothing, and has nothing that runs elsewhere."""
-    hashes = ["'sha256-" + base64.b64encode(hashlib.sha256(part.encode()).digest()).decode() + "'" for part in (page.style, page.script)]
+    hashes = [
+        "'sha256-" + base64.b64encode(hashlib.sha256(part.encode()).digest()).decode() + "'"
+        for part in (page.style, page.script)
+    ]
     assert page.policy.startswith("default-src 'none';")
     assert f"style-src {hashes[0]}" in page.policy and f"script-src {hashes[1]}" in page.policy
     assert "unsafe" not in page.policy and "http" not in page.policy

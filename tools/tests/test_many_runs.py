@@ -38,7 +38,18 @@ SEARCH = Search(
     "Races",
     [("runs", "12")],
     ["3 classes were not run"],
-    [Finding("node 0 did not write 'A'", "`main` (wake.c:55)", [("moves", "5 to 9")], ["avrora run x.toml"], 514_208, 0, 4, 10)],
+    [
+        Finding(
+            "node 0 did not write 'A'",
+            "`main` (wake.c:55)",
+            [("moves", "5 to 9")],
+            ["avrora run x.toml"],
+            514_208,
+            0,
+            4,
+            10,
+        )
+    ],
     ["avrora-tools hunt x.toml"],
 )
 
@@ -58,11 +69,13 @@ def test_findings_are_written_and_read(tmp_path):
     [
         "", "[]", "{}", '{"form": "avrora findings 2", "title": "x"}', '{"form": "avrora findings 1"}', "[" * 100_000,
         '{"form": "avrora findings 1", "title": 5}', '{"form": "avrora findings 1", "title": "x", "more": 1}',
-        '{"form": "avrora findings 1", "title": "x", "facts": [["a"]]}', '{"form": "avrora findings 1", "title": "x", "notes": "ab"}',
+        '{"form": "avrora findings 1", "title": "x", "facts": [["a"]]}', '{"form": "avrora findings 1", "title": '
+        '"x", "notes": "ab"}',
         '{"form": "avrora findings 1", "title": "x", "findings": [{"title": "y", "cycle": true}]}',
         '{"form": "avrora findings 1", "title": "x", "findings": [{"title": "y", "cycle": "5"}]}',
         '{"form": "avrora findings 1", "title": "x", "findings": [{"title": "y", "of": 1, "why": 2}]}',
-        '{"form": "avrora findings 1", "title": "x", "findings": ["y"]}', '{"form": "avrora findings 1", "title": "x", "findings": {}}',
+        '{"form": "avrora findings 1", "title": "x", "findings": ["y"]}', '{"form": "avrora findings 1", "title": '
+        '"x", "findings": {}}',
     ],
 )  # fmt: skip
 def test_what_says_no_findings_is_refused(tmp_path, text):
@@ -93,7 +106,11 @@ def histogram(rows, name):
 def test_few_values_have_a_bin_each():
     rows = [row("failed" if latency == 50 else "passed", latency, latency=latency) for latency in (50, 100, 50, 400)]
     bins = histogram(rows, "latency").bins
-    assert [(one.label, dict(one.outcomes)) for one in bins] == [("50", {"failed": 2}), ("100", {"passed": 1}), ("400", {"passed": 1})]
+    assert [(one.label, dict(one.outcomes)) for one in bins] == [
+        ("50", {"failed": 2}),
+        ("100", {"passed": 1}),
+        ("400", {"passed": 1}),
+    ]
     assert [one.measures["sent"] for one in bins] == [[50, 50, 100, 2], [100, 100, 100, 1], [400, 400, 400, 1]]
 
 
@@ -125,7 +142,10 @@ def test_the_page_of_a_campaign(tmp_path):
     assert status == 1, err
     page = Page((tmp_path / "out.html").read_text())
     check_policy(page)
-    assert collections.Counter(page.tables["table-runs"][row_][1] for row_ in range(1, 101)) == {"failed": 4, "passed": 96}
+    assert collections.Counter(page.tables["table-runs"][row_][1] for row_ in range(1, 101)) == {
+        "failed": 4,
+        "passed": 96,
+    }
     parameters = {one["name"]: one["bins"] for one in page.data["histogram-data"]["parameters"]}
     assert [(one["label"], one["outcomes"]) for one in parameters["latency"]] == [
         (str(latency), {"failed": 1, "passed": 24}) for latency in (50, 100, 200, 400)
@@ -137,7 +157,9 @@ def test_the_page_of_a_campaign(tmp_path):
     again = Page((tmp_path / "out.html").read_text())
     assert status == 1 and again.data == page.data and len(again.text) == len(first)
     results = str(tmp_path / "packet.results" / "results.sqlite")
-    status, said, err = run_tool("report", "--campaign", results, "--no-sleep", "-o", out, str(tmp_path / "packet.toml"))
+    status, said, err = run_tool(
+        "report", "--campaign", results, "--no-sleep", "-o", out, str(tmp_path / "packet.toml")
+    )
     assert status == 0, err
     whole = Page((tmp_path / "out.html").read_text())
     check_policy(whole)
@@ -161,7 +183,16 @@ def test_the_page_of_a_sweep_says_what_the_terminal_says(tmp_path):
         shutil.copy(f"{TOP}/examples/races/{name}", tmp_path)
     shutil.copy(f"{TOP}/examples/radio.h", tmp_path)
     elf = compiled(tmp_path / "wake.c", tmp_path, "-Os")
-    words = ["--start", "0=514_000..514_399", "--until", "530_000", "-e", str(elf), "--force", str(tmp_path / "wake.toml")]
+    words = [
+        "--start",
+        "0=514_000..514_399",
+        "--until",
+        "530_000",
+        "-e",
+        str(elf),
+        "--force",
+        str(tmp_path / "wake.toml"),
+    ]
     out, found = str(tmp_path / "out.html"), str(tmp_path / "found.json")
     status, said, err = run_tool("sweep", *words, "--html", out, "--findings", found)
     assert status == 1, err

@@ -21,12 +21,17 @@ def test_no_text_ends_an_element_or_an_attribute():
         text = "".join(draw.choices(alphabet, k=draw.randrange(1, 30)))
         made = markup.tag("p", text, title=text, data_value=text)
         root = xml.etree.ElementTree.fromstring(made)
-        assert root.tag == "p" and not list(root) and set(root.attrib) == {"title", "data-value"}, f"seed {SEED}: {text!r}"
+        assert (
+            root.tag == "p" and not list(root) and set(root.attrib) == {"title", "data-value"}
+        ), f"seed {SEED}: {text!r}"
         assert root.text == root.get("title") and root.text.isprintable(), f"seed {SEED}: {text!r}"
 
 
 def test_attributes():
-    assert markup.tag("input", type="checkbox", checked=True, disabled=False, title=None, class_="a") == '<input type="checkbox" checked class="a">'
+    assert (
+        markup.tag("input", type="checkbox", checked=True, disabled=False, title=None, class_="a")
+        == '<input type="checkbox" checked class="a">'
+    )
     assert markup.tag("td", 1_234_567, markup.tag("b", "x<y")) == "<td>1,234,567<b>x&lt;y</b></td>"
     assert markup.lines("a<\nb\x07") == "a&lt;\nb\\x07"
 
@@ -34,7 +39,9 @@ def test_attributes():
 def test_a_page_has_a_policy_and_its_data():
     part = pages.Section("one", "One <1>", ["avrora run 'a b'"], markup.tag("p", "</script>"))
     body = markup.Html(pages.header("t<", "k", [("bad!", "3"), ("good", "4")], "by") + pages.sections([part]))
-    text = pages.page("t<", body, styles=["page.css"], scripts=["page.js"], data={"x": {"a": "</script><!--"}}, name="report")
+    text = pages.page(
+        "t<", body, styles=["page.css"], scripts=["page.js"], data={"x": {"a": "</script><!--"}}, name="report"
+    )
     page = Page(text)
     check_policy(page)
     assert page.data == {"x": {"a": "</script><!--"}} and page.links == ["#one", "#one"]
@@ -53,15 +60,23 @@ def test_the_timeline_has_a_policy_too():
 
 
 def test_each_colour_and_element_that_a_script_or_a_style_names_is_there():
-    every = {name: pages.asset(name) for name in ("page.css", "timeline.css", "timeline.js", "page.js", "flames.js", "histograms.js")}
+    names = "page.css timeline.css events.js lanes.js timeline.js page.js flames.js histograms.js".split()
+    every = {name: pages.asset(name) for name in names}
     variables = set(palette.COLOURS) | {"flame-ink"}
     for name, text in every.items():
         assert set(re.findall(r"var\(--([\w-]+)\)", text)) <= variables, name
-        assert "</script" not in text and "<!--" not in text and "http" not in text.replace("http://www.w3.org/2000/svg", "")
-        assert not re.search(r"\b(innerHTML|outerHTML|insertAdjacentHTML|eval|Function|fetch|XMLHttpRequest|import)\b *[(=]", text), name
-    drawn = re.search(r'for \(const name of \[("paper".*?)\]\) colours', every["timeline.js"], re.S)[1]
-    assert set(re.findall(r'"(\w+)"', drawn)) <= set(palette.COLOURS)
-    used = set(re.findall(r'element\("(\w+)"\)', every["timeline.js"]))
+        assert (
+            "</script" not in text
+            and "<!--" not in text
+            and "http" not in text.replace("http://www.w3.org/2000/svg", "")
+        )
+        assert not re.search(
+            r"\b(innerHTML|outerHTML|insertAdjacentHTML|eval|Function|fetch|XMLHttpRequest|import)\b *[(=]", text
+        ), name
+    drawn = re.search(r"const PAINTS = \[(.*?)\]", every["lanes.js"], re.S)[1]
+    painted = set(re.findall(r"colours\.(\w+)", every["lanes.js"]))
+    assert painted | {"sent", "heard", "clash"} <= set(re.findall(r'"(\w+)"', drawn)) <= set(palette.COLOURS)
+    used = set(re.findall(r'(?:element|getElementById)\("(\w+)"\)', every["timeline.js"] + every["lanes.js"]))
     ids = set(re.findall(r'id="(\w+)"', timelines.element()))
     assert used <= ids and len(used) > 8
     deeds = set(re.findall(r'data-do="(\w+)"', timelines.element()))
@@ -83,7 +98,9 @@ def linear(colour):
 
 def contrast(one, other):
     """As WCAG has it."""
-    low, high = sorted(sum(weight * part for weight, part in zip((0.2126, 0.7152, 0.0722), linear(colour))) for colour in (one, other))
+    low, high = sorted(
+        sum(weight * part for weight, part in zip((0.2126, 0.7152, 0.0722), linear(colour))) for colour in (one, other)
+    )
     return (high + 0.05) / (low + 0.05)
 
 
@@ -144,7 +161,10 @@ def test_a_scale_begins_at_nothing_and_has_round_steps(greatest):
 
 
 def test_bars_are_as_long_as_what_they_are_of():
-    rows = [Bar("node 0", [Part("awake", "awake", 3), Part("asleep", "resting", 1)], "4 mA"), Bar("n<1>", [Part("awake", "awake", 8)], "8 mA")]
+    rows = [
+        Bar("node 0", [Part("awake", "awake", 3), Part("asleep", "resting", 1)], "4 mA"),
+        Bar("n<1>", [Part("awake", "awake", 8)], "8 mA"),
+    ]
     root = xml.etree.ElementTree.fromstring(bars.drawn(rows, " mA", "x"))
     svg = "{http://www.w3.org/2000/svg}"
     shapes = [shape for shape in root.iter(f"{svg}rect") if shape.get("height") == str(bars.BAR)]

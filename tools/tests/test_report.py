@@ -1,5 +1,5 @@
-"""The page of a run: its numbers are those of the other tools to the cycle, it fetches nothing, it shows no text of a stranger as
-it stands, and no file that lies elsewhere."""
+"""The page of a run: its numbers are those of the other tools to the cycle, it fetches nothing, it shows no text of a
+stranger as it stands, and no file that lies elsewhere."""
 import json
 import os
 import re
@@ -48,7 +48,8 @@ def report(place, name, *words):
 
 @pytest.mark.parametrize("name", EXAMPLES + RACES)
 def test_numbers_are_those_of_the_other_tools(name, tmp_path):
-    """Of compiled programs: cycles by function are those of `profile`, links those of `links`, currents those of `energy`."""
+    """Of compiled programs: cycles by function are those of `profile`, links those of `links`, currents those of
+    `energy`."""
     place = place_of(tmp_path, name)
     elf = built(place, name)
     scenario, trace, profile = (str(place / f"{name}.{ending}") for ending in ("toml", "trace", "profile"))
@@ -70,7 +71,9 @@ def check_against_tools(page, place, scenario, trace, profile, elf):
     assert list(zip(page.column("functions", "cycles"), page.column("functions", "function"))) == told[:most]
     covered = re.findall(r"(?m)^ +(\d+) +(\d+) +\d+  (\S+)$", out.partition("instructions of")[2])
     own = [page.column("covered-0", title)[:-1] for title in ("ran", "of", "function")]
-    assert [tuple(row) for row in zip(*own)] == [(f"{int(ran):,}", f"{int(of):,}", function) for ran, of, function in covered]
+    assert [tuple(row) for row in zip(*own)] == [
+        (f"{int(ran):,}", f"{int(of):,}", function) for ran, of, function in covered
+    ]
     status, out, _ = run_tool("links", scenario, trace)
     rows = re.findall(r"(?m)^ *(\d+) to +(\d+) +([\d,]+) +([\d,]+) +([\d,]+) +([\d,]+) +([\d,]+) ", out)
     if rows:
@@ -80,7 +83,10 @@ def check_against_tools(page, place, scenario, trace, profile, elf):
     if status == 0:  # else no node samples
         nodes = re.findall(r"(?m)^ +(\d+) +([\d,]+) +([\d,]+) +([\d,]+) +([\d,]+) +([\d,]+)$", out)
         for node, sent, samples, *heard in nodes:
-            row = [page.column("nodes", title)[int(node)] for title in ("sent", "heard nothing", "heard a byte", "heard a clash")]
+            row = [
+                page.column("nodes", title)[int(node)]
+                for title in ("sent", "heard nothing", "heard a byte", "heard a clash")
+            ]
             assert row == [sent, *heard] and number(samples) == sum(map(number, row[1:]))
     out = run_tool("energy", f"{TOP}/examples/currents.toml", scenario, profile)[1]
     energies = [line.split()[:7] for line in out.splitlines() if re.match(r" +\d+ ", line)]
@@ -96,11 +102,22 @@ def test_a_network_of_64(tmp_path):
     assert status == 0, err
     (place / "net.toml").write_text(out)
     scenario, trace, profile = (str(place / f"net.{ending}") for ending in ("toml", "trace", "profile"))
-    words = ["-e", f"0-63={elf}", "--currents", f"{TOP}/examples/currents.toml", "--always-listening", "--no-sleep", "--stacks", "10_000..12_000"]
+    words = [
+        "-e",
+        f"0-63={elf}",
+        "--currents",
+        f"{TOP}/examples/currents.toml",
+        "--always-listening",
+        "--no-sleep",
+        "--stacks",
+        "10_000..12_000",
+    ]
     _, page, _ = report(place, "net", *words)
     assert len(page.text) < pages.LARGEST_PAGE
     name = os.path.basename(scenario)
-    os.system(f"cd '{place}' && '{PROGRAM}' run --plain {name} > '{trace}' && '{PROGRAM}' monitor {name} 0 200000 > '{profile}'")
+    os.system(
+        f"cd '{place}' && '{PROGRAM}' run --plain {name} > '{trace}' && '{PROGRAM}' monitor {name} 0 200000 >
+    '{profile}'" )
     rows = [line.split() for line in open(trace)]
     nodes = page.data["timeline-data"]["nodes"]
     assert len(nodes) == 64
@@ -115,7 +132,9 @@ def test_a_network_of_64(tmp_path):
     assert sorted(row for row in every if row[2] != "0") == sorted(links) and len(links) > 100
     out = run_tool("profile", "-s", scenario, "-e", f"0-63={elf}", profile)[1]
     busy = re.findall(r"(?m)^ +(\d+) +([\d,]+) +([\d,]+) +([\d,]+) +[\d,]+ +([\d,]+)$", out)
-    own = list(zip(*(page.column("spent", title)[:-1] for title in ("node", "cycles awake", "asleep", "stopped", "charge"))))
+    own = list(
+        zip(*(page.column("spent", title)[:-1] for title in ("node", "cycles awake", "asleep", "stopped", "charge")))
+    )
     assert own == busy and len(own) == 64
 
 
@@ -136,10 +155,14 @@ def test_call_stacks_are_those_of_export(tmp_path):
 
     for graph in data["graphs"][1:]:
         walk(graph["label"], (), graph["roots"])
-    windowed = (place / "packet.toml").read_text().replace("cycles = 737_280", "cycles = 175_000\nwindow = [160_000, 175_000]")
+    windowed = (
+        (place / "packet.toml").read_text().replace("cycles = 737_280", "cycles = 175_000\nwindow = [160_000, 175_000]")
+    )
     (place / "window.toml").write_text(windowed)
     os.system(f"cd '{place}' && '{PROGRAM}' run --plain window.toml > window.trace")
-    out = run_tool("export", "folded", "-s", str(place / "window.toml"), "-e", f"0-2={elf}", str(place / "window.trace"))[1]
+    out = run_tool(
+        "export", "folded", "-s", str(place / "window.toml"), "-e", f"0-2={elf}", str(place / "window.trace")
+    )[1]
     stacks = {tuple(line.rpartition(" ")[0].split(";")): int(line.rpartition(" ")[2]) for line in out.splitlines()}
     assert found == stacks and len(found) > 5
     total = sum(count for path, count in stacks.items())
@@ -207,8 +230,8 @@ def test_a_source_that_lies_elsewhere_is_not_shown(tmp_path):
     place.mkdir()
     (tmp_path / "secret").write_text(f"{SECRET}\n" * 9)
     (place / "link.c").symlink_to(tmp_path / "secret")
-    source = f'int main(void) {{\n#line 1 "{tmp_path}/secret"\n volatile int i = 1; i++;\n#line 2 "link.c"\n i++;\n return i; }}\n'
-    (place / "a.c").write_text(source)
+    source = f'int main(void) {{\n#line 1 "{tmp_path}/secret"\n volatile int i = 1; i++;\n#line 2 "link.c"\n i++;\n
+    return i; }}\n' (place / "a.c").write_text(source)
     elf = built(place, "a", 10_000)
     _, page, _ = report(place, "a", "-e", elf, "--no-sleep")
     assert SECRET not in page.text and "secret: " in page.text  # its lines are counted
@@ -226,19 +249,25 @@ def test_text_of_a_stranger_is_shown_and_does_nothing(tmp_path):
     place = tmp_path / "a<b>&"
     place.mkdir()
     body = "UCSR0B = 8; for (const char *p = text; *p; p++) { while (!(UCSR0A & 32)); UDR0 = *p; } for (;;);"
-    (place / "a.c").write_text(f'#include <avr/io.h>\nconst char text[] = "{written}\\n";\nint main(void) {{ {body} }}\n')
+    (place / "a.c").write_text(
+        f'#include <avr/io.h>\nconst char text[] = "{written}\\n";\nint main(void) {{ {body} }}\n'
+    )
     elf = built(place, "a", 300_000)
     image = "x<script>&\u202e.hex"
     shutil.copy(place / "a.hex", place / image)
-    (place / "net.toml").write_text(f'cycles = 300_000\nnode = [{{ image = {json.dumps(image, ensure_ascii=False)} }}]\n')
+    (place / "net.toml").write_text(
+        f"cycles = 300_000\nnode = [{{ image = {json.dumps(image, ensure_ascii=False)} }}]\n"
+    )
     (place / "c<script>.expect").write_text('run net.toml\ntext 0 "<script>alert(2)</script>"\n')
     (place / "found.json").write_text(
-        json.dumps({"form": "avrora findings 1", "title": HOSTILE, "notes": [HOSTILE], "findings": [{"title": HOSTILE, "where": HOSTILE,
-                    "details": [[HOSTILE, f"{HOSTILE}\n{HOSTILE}"]], "commands": [HOSTILE], "cycle": 5, "node": 0}]})
-    )  # fmt: skip
+        json.dumps({"form": "avrora findings 1", "title": HOSTILE, "notes": [HOSTILE], "findings": [{"title": HOSTILE,
+                    "where": HOSTILE, "details": [[HOSTILE, f"{HOSTILE}\n{HOSTILE}"]], "commands": [HOSTILE], "cycle":
+    5, "node": 0}]}) )  # fmt: skip
     words = ["-e", f"0={elf}", "--expect", place / "c<script>.expect", "--findings", place / "found.json", "--no-sleep"]
     status, page, _ = report(place, "net", *words)
-    assert status == 1 and page.tags.count("script") == 3 and "alert" not in page.script  # data of timeline and flames, the script
+    assert (
+        status == 1 and page.tags.count("script") == 3 and "alert" not in page.script
+    )  # data of timeline and flames, the script
     assert "\u202e" not in page.text and "\x1b" not in page.text
     assert "\\u202E" in page.text and "\\x1B[31m" in page.text
     lines = page.data["timeline-data"]["nodes"][0]["lines"]

@@ -1,4 +1,5 @@
-"""`rerun`: a command that is run again when a file changes, or one that a scenario or a case names, and what differs."""
+"""`rerun`: a command that is run again when a file changes, or one that a scenario or a case names, and what
+differs."""
 import os
 import shutil
 import signal
@@ -13,7 +14,8 @@ from support import DATA, LONG, TOOL, run_tool, wait_for
 
 
 def rerun(place, *words, changes=(), env=None):
-    """Runs the tool in a folder, and makes each change once the files are watched again; its status, output and errors."""
+    """Runs the tool in a folder, and makes each change once the files are watched again; its status, output and
+    errors."""
     process = subprocess.Popen(
         [*TOOL, "rerun", "--every", "20", *words], cwd=place, stdout=subprocess.PIPE, stderr=subprocess.PIPE, text=True,
         env={**os.environ, **(env or {})},
@@ -42,7 +44,10 @@ def test_lines_that_differ_are_shown(tmp_path):
     (tmp_path / "a.txt").write_text("one\ntwo\nthree\n")
     change = lambda: (tmp_path / "a.txt").write_text("one\n2\nthree\n")  # noqa: E731
     status, out, err = rerun(tmp_path, "--runs", "2", "a.txt", "--", "cat", "a.txt", changes=[change])
-    assert (status, out) == (0, "one\ntwo\nthree\n--- the run before\n+++ this run\n@@ -1,4 +1,4 @@\n one\n-two\n+2\n three\n \n")
+    assert (status, out) == (
+        0,
+        "one\ntwo\nthree\n--- the run before\n+++ this run\n@@ -1,4 +1,4 @@\n one\n-two\n+2\n three\n \n",
+    )
     assert "run 1: status 0" in err and "changed: a.txt" in err and "run 2: status 0" in err
 
 
@@ -52,7 +57,15 @@ def test_rows_that_differ_are_told_as_diff_tells_them(tmp_path):
     after = before.replace("6542 0 sent 72", "6543 0 sent 72", 1)
     assert after != before
     status, out, _ = rerun(
-        tmp_path, "--runs", "2", "--quiet", "a.trace", "--", "cat", "a.trace", changes=[lambda: (tmp_path / "a.trace").write_text(after)]
+        tmp_path,
+        "--runs",
+        "2",
+        "--quiet",
+        "a.trace",
+        "--",
+        "cat",
+        "a.trace",
+        changes=[lambda: (tmp_path / "a.trace").write_text(after)],
     )
     (tmp_path / "b.trace").write_text(before)
     told = run_tool("diff", str(tmp_path / "b.trace"), str(tmp_path / "a.trace"))[1]
@@ -83,7 +96,9 @@ def test_images_of_a_scenario_and_files_of_a_case_are_watched(tmp_path):
 
 def test_the_status_is_that_of_the_last_run_and_words_behind_the_dashes_are_the_commands(tmp_path):
     (tmp_path / "a.txt").write_text("")
-    status, out, err = rerun(tmp_path, "--runs", "1", "a.txt", "--", "sh", "-c", "echo --runs; echo \"$0\"; exit 7", "--help")
+    status, out, err = rerun(
+        tmp_path, "--runs", "1", "a.txt", "--", "sh", "-c", 'echo --runs; echo "$0"; exit 7', "--help"
+    )
     assert (status, out) == (7, "--runs\n--help\n") and "run 1: status 7" in err
 
 

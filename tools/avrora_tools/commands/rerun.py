@@ -10,9 +10,10 @@ from avrora_tools.rerunning import Rerun, changed, settled, stamps_of
 
 SUMMARY = "runs a command again when files change, and shows what differs"
 
-DESCRIPTION = """Runs COMMAND, and again each time one of the FILEs changes: an image, a scenario, a case, a source. With a scenario
-its images are watched too, with a case its scenario and its golden rows. Behind the first run it shows what differs from the run
-before: of a trace as `diff` tells it, of any other output line by line. What COMMAND writes to the standard error passes through.
+DESCRIPTION = """Runs COMMAND, and again each time one of the FILEs changes: an image, a scenario, a case, a source.
+With a scenario its images are watched too, with a case its scenario and its golden rows. Behind the first run it shows
+what differs from the run before: of a trace as `diff` tells it, of any other output line by line. What COMMAND writes
+to the standard error passes through.
 
 ^C ends it. Status: with --runs that of the last run of COMMAND; else 0."""
 
@@ -23,9 +24,15 @@ def configure(parser: argparse.ArgumentParser) -> None:
     cli.describe(parser, DESCRIPTION, "rerun relay.toml relay.hex -- avrora run relay.toml")
     parser.usage = "avrora-tools rerun [OPTIONS] FILE... -- COMMAND [WORD...]"
     parser.add_argument("--runs", type=cli.positive, metavar="N", help="end behind the Nth run")
-    parser.add_argument("--every", type=cli.positive, default=300, metavar="MS", help="milliseconds between two looks (%(default)s)")
-    parser.add_argument("--timeout", type=cli.positive, default=600, metavar="S", help="seconds that a run may take (%(default)s)")
-    parser.add_argument("--quiet", action="store_true", help="show differences alone, and not what the first run writes")
+    parser.add_argument(
+        "--every", type=cli.positive, default=300, metavar="MS", help="milliseconds between two looks (%(default)s)"
+    )
+    parser.add_argument(
+        "--timeout", type=cli.positive, default=600, metavar="S", help="seconds that a run may take (%(default)s)"
+    )
+    parser.add_argument(
+        "--quiet", action="store_true", help="show differences alone, and not what the first run writes"
+    )
     parser.add_argument("file", nargs="+", metavar="FILE", help="what is watched")
 
 

@@ -12,13 +12,13 @@ from avrora_tools.sweeping.simulation import Simulator
 SUMMARY = "a page to zoom into, or a picture"
 
 DESCRIPTION = """Draws a trace: nodes from top to bottom, cycles from left to right. Writes a page of HTML that needs no
-other file (zoom with the wheel, drag, click what to know more of, go to a cycle, from clash to clash, measure between two
-markers), or with --svg a picture for papers.
+other file (zoom with the wheel, drag, click what to know more of, go to a cycle, from clash to clash, measure between
+two markers), or with --svg a picture for papers.
 With the scenario (-s) it knows how long a byte is on the air, and who clashed with whom. When exactly a node sleeps is
 known in the window of the scenario alone, where instructions are traced; with --sleep the simulator's `monitor` tells
-which part of each span of the run it slept. With programs (-e) a chosen event tells its source line, in the window. A page of more than 5 MB is thinned: of samples, then of other
-events, of clashes last, that lie close together one is kept, and the page says so; --from, --to and --nodes draw less,
-and all of it.
+which part of each span of the run it slept. With programs (-e) a chosen event tells its source line, in the window. A
+page of more than 5 MB is thinned: of samples, then of other events, of clashes last, that lie close together one is
+kept, and the page says so; --from, --to and --nodes draw less, and all of it.
 It takes a trace with its end rows, also one of `avrora resume` and of the tool window, or with --head the beginning of
 one."""
 
@@ -36,7 +36,9 @@ def configure(parser: argparse.ArgumentParser) -> None:
         action="store_true",
         help="show samples that heard nothing in the picture too (the page has a switch)",
     )
-    parser.add_argument("--sleep", action="store_true", help="run `avrora monitor`, and show sleep in the whole run (-s)")
+    parser.add_argument(
+        "--sleep", action="store_true", help="run `avrora monitor`, and show sleep in the whole run (-s)"
+    )
     cli.add_simulator(parser)
     parser.add_argument(
         "--timeout", type=cli.positive, default=600, metavar="S", help="seconds that a run may take (%(default)s)"
@@ -64,7 +66,8 @@ def run(arguments: argparse.Namespace) -> int:
     if arguments.sleep and scenario:
         path = os.path.abspath(arguments.scenario)
         simulator = Simulator(cli.simulator(arguments.avrora), os.path.dirname(path), arguments.timeout)
-        resting.add_to(drawing, simulator, path, scenario, resting.monitored(simulator, path, scenario, 0, scenario.cycles))
+        whole = resting.monitored(simulator, path, scenario, 0, scenario.cycles)
+        resting.add_to(drawing, simulator, path, scenario, whole)
     if is_picture:
         text = pictures.Picture(drawing, arguments.hz, arguments.width, arguments.quiet).text()
     else:

@@ -77,7 +77,8 @@ def drawn(bars: Sequence[Bar], unit: str, title: str, width: int = 900, is_part_
         x = left + tick * across
         out.append(
             f'<line class="grid" x1="{x:.1f}" x2="{x:.1f}" y1="{top - 4}" y2="{bottom}"/>'
-            f'<text x="{x:.1f}" y="{bottom + 14}" text-anchor="middle">{tick:,.{digits}f}{unit if tick == ticks[-1] else ""}</text>'
+            f'<text x="{x:.1f}" y="{bottom + 14}" '
+            f'text-anchor="middle">{tick:,.{digits}f}{unit if tick == ticks[-1] else ""}</text>'
         )
     for number, bar in enumerate(bars):
         out += bar_shapes(bar, unit, left, top + number * (BAR + GAP), across)
@@ -96,7 +97,8 @@ def bar_shapes(bar: Bar, unit: str, left: int, y: int, across: float) -> list[st
         long = part.value * across
         words = showing.markup(f"{bar.label}, {part.name}: {part.value:.4g}{unit}")
         out.append(
-            f'<rect x="{along:.1f}" y="{y}" width="{long:.1f}" height="{BAR}" class="fill-{part.colour}"><title>{words}</title></rect>'
+            f'<rect x="{along:.1f}" y="{y}" width="{long:.1f}" height="{BAR}" class="fill-{part.colour}">'
+            f'<title>{words}</title></rect>'
         )
         along += long
     return [*out, f'<text x="{along + 6:.1f}" y="{y + BAR - 4}">{showing.markup(bar.said)}</text>']

@@ -31,8 +31,8 @@ COLOURS = {runs.PASSED: "good", runs.FAILED: "bad", runs.REFUSED: "closed", runs
 
 @dataclass
 class Bin:
-    """The runs whose parameter has a value of the bin: how many came to what; of each measure the least, the greatest, the
-    sum and how many runs have one."""
+    """The runs whose parameter has a value of the bin: how many came to what; of each measure the least, the greatest,
+    the sum and how many runs have one."""
 
     label: str
     outcomes: Counter[str] = field(default_factory=Counter)
@@ -55,7 +55,8 @@ class Bin:
 
 @dataclass
 class Values:
-    """The values that a parameter has in the runs, as far as they are told apart; beyond that the least and the greatest."""
+    """The values that a parameter has in the runs, as far as they are told apart; beyond that the least and the
+    greatest."""
 
     known: set[object] = field(default_factory=set)
     is_numeric: bool = True
@@ -75,7 +76,11 @@ class Values:
 
 
 def key_of(value: object) -> object:
-    return value if isinstance(value, (int, float, str)) and not isinstance(value, bool) else json.dumps(value, default=str)
+    return (
+        value
+        if isinstance(value, (int, float, str)) and not isinstance(value, bool)
+        else json.dumps(value, default=str)
+    )
 
 
 class Histogram:
@@ -100,7 +105,9 @@ class Histogram:
     def add(self, value: object, row: Mapping[str, Any]) -> None:
         if self.spans:
             number = float(value)  # type: ignore[arg-type]
-            place = min(len(self.bins) - 1, max(0, int((number - self.spans[0]) / (self.spans[1] - self.spans[0]) + 1e-9)))
+            place = min(
+                len(self.bins) - 1, max(0, int((number - self.spans[0]) / (self.spans[1] - self.spans[0]) + 1e-9))
+            )
             self.bins[place].add(row)
         else:
             self.by_value.get(key_of(value), self.bins[-1]).add(row)
@@ -125,9 +132,15 @@ class Statistics:
     def data(self) -> dict[str, object]:
         """What the script of the page draws."""
         parameters = [
-            {"name": printable(name), "bins": [one.data() for one in histogram.bins]} for name, histogram in self.histograms.items()
+            {"name": printable(name), "bins": [one.data() for one in histogram.bins]}
+            for name, histogram in self.histograms.items()
         ]
-        return {"parameters": parameters, "outcomes": list(runs.OUTCOMES), "measures": list(MEASURES), "colours": COLOURS}
+        return {
+            "parameters": parameters,
+            "outcomes": list(runs.OUTCOMES),
+            "measures": list(MEASURES),
+            "colours": COLOURS,
+        }
 
 
 def statistics(report: reports.Report) -> Statistics:
@@ -154,7 +167,11 @@ def section(found: Statistics, command: str = "avrora-tools campaign --report RE
     parts = [tag("p", found.closing), *(tag("p", line) for line in found.compared)]
     if any(found.outcomes.values()):
         total = sum(found.outcomes.values())
-        shares = [bars.Part(word, COLOURS[word], 100 * found.outcomes[word] / total) for word in runs.OUTCOMES if found.outcomes[word]]
+        shares = [
+            bars.Part(word, COLOURS[word], 100 * found.outcomes[word] / total)
+            for word in runs.OUTCOMES
+            if found.outcomes[word]
+        ]
         parts.append(bars.in_page([bars.Bar("runs", shares, f"{total:,}")], "%", "what runs came to"))
     parts += [*histogram_place(found), *messages(found), tag("h3", "Runs"), runs_table(found)]
     return Section("campaign", f"Campaign {found.name}", [command], joined(parts))
@@ -195,9 +212,19 @@ def shape_of(message: str) -> str:
 
 def runs_table(found: Statistics) -> Html:
     rows = [run_row(row) for row in found.rows]
-    columns = [Column("run", "long"), Column(""), Column("parameters", "long"), *numbers(*runs.COUNTS, "seconds", "attempts"), Column("host")]
+    columns = [
+        Column("run", "long"),
+        Column(""),
+        Column("parameters", "long"),
+        *numbers(*runs.COUNTS, "seconds", "attempts"),
+        Column("host"),
+    ]
     total = sum(found.outcomes.values())
-    more = pages.note(f"{len(rows):,} of {total:,} runs; --report --json FILE writes all") if total > len(rows) else Html("")
+    more = (
+        pages.note(f"{len(rows):,} of {total:,} runs; --report --json FILE writes all")
+        if total > len(rows)
+        else Html("")
+    )
     return Html(tables.drawn("runs", columns, rows, filter_words="show runs with") + more)
 
 
@@ -221,5 +248,11 @@ def page(found: Statistics, command: str, told: Iterable[str], by: str) -> str:
     body = joined([head, *(pages.warning(line) for line in told), pages.sections([section(found, command)])])
     data = {"histogram-data": found.data()}
     return pages.page(
-        found.name, body, styles=["page.css"], scripts=["page.js", "histograms.js"], data=data, name="report", rules=bars.fills()
+        found.name,
+        body,
+        styles=["page.css"],
+        scripts=["page.js", "histograms.js"],
+        data=data,
+        name="report",
+        rules=bars.fills(),
     )

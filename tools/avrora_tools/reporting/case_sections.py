@@ -12,6 +12,7 @@ from avrora_tools.reporting.markup import Html, html, joined, tag
 from avrora_tools.reporting.pages import Section
 from avrora_tools.reporting.tables import Cell, Column, numbers
 
+
 class Checked(NamedTuple):
     """A case of `expect`, what came of it, and the seconds that it took."""
 
@@ -44,7 +45,13 @@ def cases(checked: Sequence[Checked], command: str, has_timeline: bool) -> Secti
 
 
 def row_of(one: Checked) -> list[str | int | Html | Cell]:
-    return [badge(one.outcome.status), files.shown(one.case.path), one.outcome.expectations, one.outcome.rows, f"{one.seconds:.2f}"]
+    return [
+        badge(one.outcome.status),
+        files.shown(one.case.path),
+        one.outcome.expectations,
+        one.outcome.rows,
+        f"{one.seconds:.2f}",
+    ]
 
 
 def badge(status: Status) -> Html:

@@ -42,7 +42,9 @@ def functions(run: Gathered) -> Section:
     if not run.programs.all:
         parts.insert(0, pages.note("With -e PROGRAM.elf functions, lines and call stacks have their names."))
         return Section("functions", "Where the cycles went", commands, joined(parts))
-    lines = [one for one in profiles.by_name(run.spent, names.line) if "(no line)" not in one.name and one.rows is not None]
+    lines = [
+        one for one in profiles.by_name(run.spent, names.line) if "(no line)" not in one.name and one.rows is not None
+    ]
     if lines:
         shown = taken_table("lines", "source line", lines, total, MOST_SOURCE_LINES)
         parts.append(tag("details", tag("summary", "by source line"), shown))
@@ -52,8 +54,10 @@ def functions(run: Gathered) -> Section:
         parts += [
             tag("h3", "Call stacks"),
             pages.note(
-                f"Of the cycles {first:,} to {end:,}, in which instructions are traced (--stacks FROM..TO names others). A function "
-                "lies below the one that called it; its width is its cycles, with all that it called. Interrupts have stacks of their own."
+                f"Of the cycles {first:,} to {end:,}, in which instructions are traced (--stacks FROM..TO names "
+                "others). A function "
+                "lies below the one that called it; its width is its cycles, with all that it called. Interrupts "
+                "have stacks of their own."
             ),
             flame_place(),
         ]
@@ -90,7 +94,9 @@ def flame_place() -> Html:
     found = tag("label", "find ", tag("input", type="search", id="flame-find"))
     reset = tag("button", "all", type="button", id="flame-all")
     box = tag("div", "", id="flames", class_="flame-box")
-    return joined([tag("p", chosen, found, reset, class_="filters"), box, tag("p", "", id="flame-status", class_="flame-status")])
+    return joined(
+        [tag("p", chosen, found, reset, class_="filters"), box, tag("p", "", id="flame-status", class_="flame-status")]
+    )
 
 
 # A call stack: the place of its name, its own cycles, what it called.
@@ -168,7 +174,11 @@ def source_parts(counts: coverage.Covered, source_folder: str | None) -> Iterato
         return
     yield tag("h3", "Lines that ran")
     room = MOST_SOURCE
-    folders = [source_folder] if source_folder else sorted({os.path.dirname(program.path) or "." for program in counts.counts})
+    folders = (
+        [source_folder]
+        if source_folder
+        else sorted({os.path.dirname(program.path) or "." for program in counts.counts})
+    )
     for path, source in found.items():
         ran, of = sum(1 for count in source.lines.values() if count), len(source.lines)
         words = f"{os.path.basename(path)}: {ran} of {of} lines ran ({100 * ran / max(1, of):.0f}%)"
@@ -180,14 +190,24 @@ def source_parts(counts: coverage.Covered, source_folder: str | None) -> Iterato
             continue
         room -= len(text)
         rows = [source_row(number, line, source.lines) for number, line in enumerate(text.split("\n"), 1)]
-        yield tag("details", tag("summary", words), tag("div", tag("table", tag("tbody", *rows), class_="source"), class_="wide"))
+        yield tag(
+            "details",
+            tag("summary", words),
+            tag("div", tag("table", tag("tbody", *rows), class_="source"), class_="wide"),
+        )
 
 
 def source_row(number: int, line: str, counts: Mapping[int, int]) -> Html:
     count = counts.get(number)
     kind = None if count is None else "ran" if count else "idle"
     shown = html(line.replace("\t", " " * 8))
-    return tag("tr", tag("td", str(number), class_="n"), tag("td", "" if count is None else f"{count:,}", class_="n hits"), tag("td", shown), class_=kind)
+    return tag(
+        "tr",
+        tag("td", str(number), class_="n"),
+        tag("td", "" if count is None else f"{count:,}", class_="n hits"),
+        tag("td", shown),
+        class_=kind,
+    )
 
 
 def text_of(path: str, folders: list[str]) -> str | None:

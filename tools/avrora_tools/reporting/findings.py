@@ -1,5 +1,5 @@
-"""What a search found, for whoever finds it: a sweep, a hunt. A finding is data, which a file in JSON holds, and which a page
-shows."""
+"""What a search found, for whoever finds it: a sweep, a hunt. A finding is data, which a file in JSON holds, and which
+a page shows."""
 import dataclasses
 import json
 from collections.abc import Sequence
@@ -124,8 +124,8 @@ def page(
     more: Sequence[Section] = (),
     rules: str = "",
 ) -> str:
-    """A page of what was found alone: what it is of (`title`), by which search (`kind`), by whom; `cards` are what is wanted
-    first, beside the number of findings, `more` are parts below the findings, which need the style `rules`."""
+    """A page of what was found alone: what it is of (`title`), by which search (`kind`), by whom; `cards` are what is
+    wanted first, beside the number of findings, `more` are parts below the findings, which need the style `rules`."""
     found = [("findings" + "!" * bool(search.findings), f"{len(search.findings):,}"), *cards]
     body = joined([pages.header(title, kind, found, by), pages.sections([section(search), *more])])
     return pages.page(title, body, styles=["page.css"], scripts=["page.js"], data={}, name="report", rules=rules)
@@ -140,6 +140,10 @@ def article(number: int, one: Finding, has_timeline: bool) -> Html:
         leads = f"#{one.cycle}" + (f"@{one.node}" if one.node is not None else "")
         rows.append(("cycle", tag("a", place, href=leads) if has_timeline else html(place)))
     rows += [(what, tag("pre", lines(more)) if "\n" in more else html(more)) for what, more in one.details]
-    rows += [("to see it", joined(tag("code", command, class_="command") for command in one.commands))] if one.commands else []
+    rows += (
+        [("to see it", joined(tag("code", command, class_="command") for command in one.commands))]
+        if one.commands
+        else []
+    )
     facts = tag("dl", *(Html(tag("dt", what) + tag("dd", value)) for what, value in rows))
     return tag("article", tag("h3", f"{number}. ", one.title), facts, class_="finding")

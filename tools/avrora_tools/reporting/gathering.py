@@ -1,5 +1,5 @@
-"""What is known of one run: its scenario is run by the simulator, or its trace is given, and all that the tools tell of it is
-put together."""
+"""What is known of one run: its scenario is run by the simulator, or its trace is given, and all that the tools tell of
+it is put together."""
 import contextlib
 import hashlib
 import os
@@ -131,7 +131,8 @@ def gathered(path: str, simulator: Simulator, all_programs: programs.Programs, w
 
 
 def run_into(simulator: Simulator, path: str, *words: str) -> None:
-    """Writes what the simulator writes to a file. Raises BadInput where it refuses its input, CannotWork where it fails."""
+    """Writes what the simulator writes to a file. Raises BadInput where it refuses its input, CannotWork where it
+    fails."""
     with open(path, "wb") as output, tempfile.TemporaryFile() as errors:
         streams = {"stdin": subprocess.DEVNULL, "stdout": output, "stderr": errors}
         with simulator.groups.started([simulator.program, *words], cwd=simulator.folder, **streams) as process:
@@ -196,7 +197,8 @@ def add_currents(found: Gathered, simulator: Simulator, name: str, always_listen
     found.table, found.radios = table, radios
     byte_time = found.scenario.byte_time
     found.accounts = [
-        budgets.account(node, table.of(number), byte_time, table.hz, radios[number]) for number, node in enumerate(nodes)
+        budgets.account(node, table.of(number), byte_time, table.hz, radios[number])
+        for number, node in enumerate(nodes)
     ]
 
 
@@ -268,7 +270,9 @@ def checked(case: Case, found: Gathered, trace_path: str | None, avrora: str) ->
         if trace_path and case.source and case.source[0] == "run":
             source = os.path.join(case.folder, case.source[1])
             if os.path.realpath(source) == os.path.realpath(found.path):
-                return expectations.check(case, traces.file_blocks(trace_path), name=files.shown(trace_path), lacking=Lacking())
+                return expectations.check(
+                    case, traces.file_blocks(trace_path), name=files.shown(trace_path), lacking=Lacking()
+                )
         return expectations.run_case(case, avrora)
     except ToolError as fault:
         return Outcome(str(fault), 0, len(case.statements), fault.status)

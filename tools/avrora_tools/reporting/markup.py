@@ -25,8 +25,8 @@ def joined(contents: Iterable[Content], between: str = "") -> Html:
 
 
 def tag(element: str, /, *contents: Content, **attributes: str | int | float | bool | None) -> Html:
-    """An element. A name of an attribute that is a word of Python has _ behind it, and _ stands for -; an attribute that
-    is None or False is left out."""
+    """An element. A name of an attribute that is a word of Python has _ behind it, and _ stands for -; an attribute
+    that is None or False is left out."""
     words = [element]
     for key, value in attributes.items():
         key = key.rstrip("_").replace("_", "-")

@@ -42,13 +42,15 @@ def page(
     name: str = "",
     rules: str = "",
 ) -> str:
-    """A page. `styles` and `scripts` are names of files of this package, `rules` more of style; `data` has JSON by the id of
-    its element."""
+    """A page. `styles` and `scripts` are names of files of this package, `rules` more of style; `data` has JSON by the
+    id of its element."""
     style = palette.variables() + "".join(map(asset, styles)) + rules
     script = "\n" + "".join(map(asset, scripts))
-    policy = f"default-src 'none'; style-src {source_of(style)}; script-src {source_of(script)}; base-uri 'none'; form-action 'none'"
+    sources = f"style-src {source_of(style)}; script-src {source_of(script)}"
+    policy = f"default-src 'none'; {sources}; base-uri 'none'; form-action 'none'"
     carried = "".join(
-        f'<script type="application/json" id="{key}">{showing.script_data(value)}</script>\n' for key, value in data.items()
+        f'<script type="application/json" id="{key}">{showing.script_data(value)}</script>\n'
+        for key, value in data.items()
     )
     head = joined(
         [
@@ -62,7 +64,7 @@ def page(
         "\n",
     )
     opened = Html(f'<body class="{showing.markup(name)}">' if name else "<body>")
-    return f"<!doctype html>\n<html lang=\"en\">\n{head}\n{opened}\n{body}\n{carried}<script>{script}</script>\n"
+    return f'<!doctype html>\n<html lang="en">\n{head}\n{opened}\n{body}\n{carried}<script>{script}</script>\n'
 
 
 def sections(parts: Sequence[Section]) -> Html:
@@ -85,10 +87,21 @@ def section(part: Section) -> Html:
 def header(title: str, kind: str, facts: Sequence[tuple[str, str]], by: str) -> Html:
     """The head of a page: what it is of, and the facts that are wanted first; one whose name ends in ! is a warning."""
     cards = joined(
-        tag("div", tag("b", value), tag("span", what.removesuffix("!")), class_="card" + (" warns" if what.endswith("!") else ""))
+        tag(
+            "div",
+            tag("b", value),
+            tag("span", what.removesuffix("!")),
+            class_="card" + (" warns" if what.endswith("!") else ""),
+        )
         for what, value in facts
     )
-    return tag("header", tag("p", kind, class_="kind"), tag("h1", title), tag("div", cards, class_="cards"), tag("p", by, class_="by"))
+    return tag(
+        "header",
+        tag("p", kind, class_="kind"),
+        tag("h1", title),
+        tag("div", cards, class_="cards"),
+        tag("p", by, class_="by"),
+    )
 
 
 def note(text: str) -> Html:

@@ -1,5 +1,5 @@
-"""The colours of all pages and pictures, for light and for dark, told apart also by who sees no red or no green: those of
-Okabe and Ito, as dark or as light as the paper wants. No picture tells anything by colour alone."""
+"""The colours of all pages and pictures, for light and for dark, told apart also by who sees no red or no green: those
+of Okabe and Ito, as dark or as light as the paper wants. No picture tells anything by colour alone."""
 from collections.abc import Iterable
 from typing import NamedTuple
 

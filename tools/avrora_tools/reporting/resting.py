@@ -22,8 +22,8 @@ def monitored(simulator: Simulator, path: str, scenario: Scenario, first: int, e
 
 
 def ends_of(first: int, end: int, awake: int) -> list[int]:
-    """Cycles that divide those from `first` to `end` into spans: so many that what is simulated for them, of nodes that are
-    `awake` for so many cycles of a run, does not take long."""
+    """Cycles that divide those from `first` to `end` into spans: so many that what is simulated for them, of nodes that
+    are `awake` for so many cycles of a run, does not take long."""
     affordable = 2 * MOST_WORK // max(1, awake)
     count = max(1, min(MOST_SPANS, affordable, (end - first) // LEAST_SPAN))
     return [first + (end - first) * number // count for number in range(count + 1)]

@@ -4,7 +4,16 @@ from dataclasses import dataclass
 
 from avrora_tools import maps, results, showing, terminal
 from avrora_tools import reports as campaign_reports
-from avrora_tools.reporting import bars, campaign_sections, case_sections, code_sections, findings, pages, run_sections, timelines
+from avrora_tools.reporting import (
+    bars,
+    campaign_sections,
+    case_sections,
+    code_sections,
+    findings,
+    pages,
+    run_sections,
+    timelines,
+)
 from avrora_tools.reporting.campaign_sections import Statistics
 from avrora_tools.reporting.findings import Search
 from avrora_tools.reporting.gathering import Gathered
@@ -12,8 +21,8 @@ from avrora_tools.reporting.markup import Html
 from avrora_tools.reporting.pages import Section
 from avrora_tools.reporting.run_sections import command
 
-STYLES = ("page.css", "timeline.css")
-SCRIPTS = ("page.js", "timeline.js", "flames.js", "histograms.js")
+STYLES = timelines.STYLES
+SCRIPTS = ("page.js", *timelines.SCRIPTS, "flames.js", "histograms.js")
 
 
 @dataclass(frozen=True)
@@ -33,7 +42,9 @@ def campaign_of(name: str, adopts: bool) -> Statistics:
     return found
 
 
-def sections(run: Gathered, searches: Sequence[Search], statistics: Statistics | None, options: Options) -> list[Section]:
+def sections(
+    run: Gathered, searches: Sequence[Search], statistics: Statistics | None, options: Options
+) -> list[Section]:
     """The parts of the page, in the order in which they are read."""
     parts = [run_sections.what_was_run(run, options.hz), run_sections.what_came(run, options.hz)]
     if run.cases:
@@ -68,7 +79,15 @@ def page(run: Gathered, searches: Sequence[Search], statistics: Statistics | Non
 
     def text(timeline: dict[str, object]) -> str:
         carried: dict[str, object] = {"timeline-data": timeline, **data}
-        return pages.page(title, body, styles=STYLES, scripts=SCRIPTS, data=carried, name="report", rules=maps.page_rules() + bars.fills())
+        return pages.page(
+            title,
+            body,
+            styles=STYLES,
+            scripts=SCRIPTS,
+            data=carried,
+            name="report",
+            rules=maps.page_rules() + bars.fills(),
+        )
 
     names = code_sections.names_of(run)
     room = pages.LARGEST_PAGE - len(showing.encoded(text({})))

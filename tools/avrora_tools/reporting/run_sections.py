@@ -58,7 +58,10 @@ def what_was_run(run: Gathered, hz: int) -> Section:
         ("a byte is on the air for", f"{scenario.byte_time:,} cycles ({seconds(scenario.byte_time, hz)})"),
         ("latency of links", latencies(run)),
         ("rows of the trace", f"{run.rows:,}"),
-        ("window of instructions", f"{scenario.window[0]:,} to {scenario.window[1]:,}" if any(scenario.window) else "none"),
+        (
+            "window of instructions",
+            f"{scenario.window[0]:,} to {scenario.window[1]:,}" if any(scenario.window) else "none",
+        ),
     ]
     facts_list = tag("dl", *(Html(tag("dt", name) + tag("dd", html(value))) for name, value in facts), class_="facts")
     content = joined([facts_list, tag("h3", "Images"), images, tag("h3", "Input to USART0"), inputs(run)])
@@ -81,7 +84,11 @@ def inputs(run: Gathered) -> Html:
         rows.append([one["node"], one["at"], one.get("every", ""), len(data), code(hexed), code(text)])
     if not rows:
         return pages.note("Nothing arrives at any node.")
-    columns = [*numbers("node", "from cycle", "cycles apart", "bytes"), Column("hexadecimal", "long"), Column("text", "long")]
+    columns = [
+        *numbers("node", "from cycle", "cycles apart", "bytes"),
+        Column("hexadecimal", "long"),
+        Column("text", "long"),
+    ]
     table = tables.drawn("inputs", columns, rows, filter_words="show inputs with")
     return table if len(rows) <= FEW_INPUTS else tag("details", tag("summary", f"{len(rows)} nodes have input"), table)
 
@@ -97,12 +104,17 @@ def what_came(run: Gathered, hz: int) -> Section:
     for node in range(len(run.scenario.images)):
         lane, end = lanes.get(node, Lane()), run.ended[node]
         heard = [reader.samples[node, status] for status in (NOTHING, ONE_BYTE, CLASH)]
-        stop: Content = joined((Html(at(cycle, node) + html(f" {cause}")) for cycle, cause in lane.stop), ", ") if lane.stop else ""
+        stop: Content = (
+            joined((Html(at(cycle, node) + html(f" {cause}")) for cycle, cause in lane.stop), ", ") if lane.stop else ""
+        )
         counts = [reader.sends[node], *heard, len(lane.serial), end.instructions]
         sums = [one + other for one, other in zip(sums, counts)]
-        rows.append([node, run.drawing.name(node).partition(" ")[2], *counts, end.state, *([stop] if has_stops else [])])
+        rows.append(
+            [node, run.drawing.name(node).partition(" ")[2], *counts, end.state, *([stop] if has_stops else [])]
+        )
     columns = [
-        *numbers("node"), Column("image"), *numbers("sent", "heard nothing", "heard a byte", "heard a clash", "to USART0", "instructions"),
+        *numbers("node"), Column("image"), *numbers("sent", "heard nothing", "heard a byte", "heard a clash"),
+        *numbers("to USART0", "instructions"),
         Column("at the end"), *([Column("stopped", "long")] if has_stops else []),
     ]  # fmt: skip
     table = tables.drawn("nodes", columns, rows, ["all", "", *sums, ""], filter_words="show nodes with")
@@ -146,7 +158,9 @@ def serial_of(run: Gathered, hz: int) -> Iterator[Html]:
     if len(writers) > MOST_APART:
         every = sorted(Said(cycle, node, text) for node, lane in writers for cycle, _, text in lane.lines)
         size = sum(len(lane.serial) for _, lane in writers)
-        yield log(f"{len(writers)} nodes: {len(every):,} lines, {size:,} bytes", every, hz, MOST_TEXT, "", with_nodes=True)
+        yield log(
+            f"{len(writers)} nodes: {len(every):,} lines, {size:,} bytes", every, hz, MOST_TEXT, "", with_nodes=True
+        )
         return
     for node, lane in writers:
         said = [Said(cycle, node, text) for cycle, _, text in lane.lines]
@@ -170,7 +184,9 @@ def log(words: str, said: Sequence[Said], hz: int, room: int, option: str, with_
         if room < 0:
             break
         who = f" {one.node:>2} |" if with_nodes else ""
-        stamp = tag("span", at(one.cycle, one.node, f"{one.cycle:>14,}"), f"  {one.cycle / hz:.6f} s {who} ", class_="at")
+        stamp = tag(
+            "span", at(one.cycle, one.node, f"{one.cycle:>14,}"), f"  {one.cycle / hz:.6f} s {who} ", class_="at"
+        )
         told.append(Html(stamp + html(one.text)))
     left = len(said) - len(told)
     more = [pages.note(f"{left:,} more lines: avrora-tools console {option}TRACE")] if left else []
@@ -206,7 +222,9 @@ def links(run: Gathered) -> Section:
     for link in sorted(run.scenario.links):
         ends = link.sender, link.hearer
         clean, sent = counts[ends, "clean"], counts[ends, "sent"]
-        rows.append([link.sender, link.hearer, *(counts[ends, fate] for fate in FATES), tables.meter(clean, sent), link.latency])
+        rows.append(
+            [link.sender, link.hearer, *(counts[ends, fate] for fate in FATES), tables.meter(clean, sent), link.latency]
+        )
         if has_spans:
             rows[-1] = [*rows[-1], "always" if link.spans is None else f"{len(link.spans):,} spans"]
     columns = [
@@ -223,7 +241,12 @@ def links(run: Gathered) -> Section:
     table = tables.drawn("quality", columns, rows, filter_words="show links with")
     odd = maps.oddities(len(run.scenario.images), list(qualities))
     notes = [tag("ul", *(tag("li", line) for line in odd))] if odd else []
-    return Section("links", "Links", commands, Html(tag("div", tag("div", tag("div", picture, class_="wide"), *notes), table, class_="columns links")))
+    return Section(
+        "links",
+        "Links",
+        commands,
+        Html(tag("div", tag("div", tag("div", picture, class_="wide"), *notes), table, class_="columns links")),
+    )
 
 
 # ---- energy
@@ -244,14 +267,22 @@ def energy(run: Gathered, currents: str | None) -> Section:
         for node, one in run.spent.items()
         for shares in [[100 * part / max(1, one.total()) for part in (one.busy(), one.asleep, one.stopped, one.lead)]]
     ]
-    parts = [tag("h3", "Duty cycle of the processors"), bar_picture(duties, "%", "duty cycle of each node"), spent_table(run)]
+    parts = [
+        tag("h3", "Duty cycle of the processors"),
+        bar_picture(duties, "%", "duty cycle of each node"),
+        spent_table(run),
+    ]
     if run.table and currents:
         commands.append(command("energy", currents, run.path, "REPORT"))
         whole = next(iter(run.spent.values())).total() / run.table.hz
         drawn = bar_picture(currents_of(run.accounts, whole), " mA", "mean current of each node")
         parts += [tag("h3", "Mean current"), drawn, charge_table(run, whole)]
     else:
-        parts.append(pages.note("With --currents FILE, a table of currents, this page tells mA, charge and days of a battery too."))
+        parts.append(
+            pages.note(
+                "With --currents FILE, a table of currents, this page tells mA, charge and days of a battery too."
+            )
+        )
     return Section("energy", "Energy and duty cycle", commands, joined(parts))
 
 
@@ -287,7 +318,8 @@ def charge_table(run: Gathered, whole: float) -> Html:
             days = between(*hours, ".0f")
         charges = between(budgets.milliampere_hours(account.least), budgets.milliampere_hours(account.most), ".4g")
         rows.append(
-            [node, percent(budgets.duty_cycle(one)), percent(listening), budgets.sent(one), between(least, most, ".3f"), charges,
+            [node, percent(budgets.duty_cycle(one)), percent(listening), budgets.sent(one),
+             between(least, most, ".3f"), charges,
              between(least * budgets.HOURS_A_DAY, most * budgets.HOURS_A_DAY, ".2f"), days]
         )  # fmt: skip
     columns = numbers("node", "awake", "listens", "sent", "mA", "mA h", "mA h a day", "days")

@@ -50,23 +50,29 @@ def strip(every: list[Stretch]) -> Html:
         drawn_to = x + wide
         words = f"{one.first:,} to {one.last:,} {one.state}"
         shapes.append(
-            f'<rect class="fill-{STATES[one.state]}" x="{x:.1f}" y="{14 if one.state == "fails" else 18}" width="{wide:.1f}" '
+            f'<rect class="fill-{STATES[one.state]}" x="{x:.1f}" y="{14 if one.state == "fails" else 18}" '
+            f'width="{wide:.1f}" '
             f'height="{20 if one.state == "fails" else 12}"><title>{words}</title></rect>'
         )
     step, _ = bars.round_step(Fraction(end - first) / bars.TICKS, may_be_part=False)
     tick = -(-first // int(step)) * int(step)
     while tick < end:
         x = LEFT + (tick - first) * across
-        shapes.append(f'<line class="grid" x1="{x:.1f}" x2="{x:.1f}" y1="10" y2="40"/><text x="{x:.1f}" y="54" text-anchor="middle">{tick:,}</text>')
+        shapes.append(
+            f'<line class="grid" x1="{x:.1f}" x2="{x:.1f}" y1="10" y2="40"/><text x="{x:.1f}" y="54" '
+            f'text-anchor="middle">{tick:,}</text>'
+        )
         tick += int(step)
-    svg = f'<svg viewBox="0 0 {WIDTH} 60" class="bars" role="img" aria-label="which moves fail" font-size="11">{"".join(shapes)}</svg>'
+    about = 'class="bars" role="img" aria-label="which moves fail" font-size="11"'
+    svg = f'<svg viewBox="0 0 {WIDTH} 60" {about}>{"".join(shapes)}</svg>'
     keys = tag("p", *(key(state) for state in STATES if any(one.state == state for one in every)), class_="keys")
     return Html(tag("div", Html(svg), class_="wide") + keys)
 
 
 def key(state: str) -> Html:
     colour = STATES[state]
-    swatch = f'<svg width="12" height="12" class="swatch" viewBox="0 0 12 12"><rect class="fill-{colour}" width="12" height="12"/></svg>'
+    square = f'<rect class="fill-{colour}" width="12" height="12"/>'
+    swatch = f'<svg width="12" height="12" class="swatch" viewBox="0 0 12 12">{square}</svg>'
     return tag("span", Html(swatch), state)
 
 

@@ -39,7 +39,10 @@ def drawn(
 ) -> Html:
     """A table. With `filter_words` a field above it shows the rows alone that have a text."""
     body = [row_of(columns, row) for row in rows]
-    head = tag("tr", *(tag("th", one.title, scope="col", class_=one.kind or None, title=one.meaning or None) for one in columns))
+    head = tag(
+        "tr",
+        *(tag("th", one.title, scope="col", class_=one.kind or None, title=one.meaning or None) for one in columns),
+    )
     parts = [tag("caption", caption)] if caption else []
     parts += [tag("thead", head), tag("tbody", *body)]
     if foot:
@@ -73,6 +76,7 @@ def meter(part: float, whole: float, colour: str = "sent", width: int = 80) -> C
     share = min(1.0, part / whole) if whole else 0.0
     bar = (
         f'<svg width="{width}" height="11" viewBox="0 0 {width} 11" aria-hidden="true">'
-        f'<rect class="fill-rule" width="{width}" height="11"/><rect class="fill-{colour}" width="{width * share:.1f}" height="11"/></svg>'
+        f'<rect class="fill-rule" width="{width}" height="11"/><rect class="fill-{colour}" '
+        f'width="{width * share:.1f}" height="11"/></svg>'
     )
     return Cell(Html(f"{bar} {100 * share:.1f}%" if whole else ""), share if whole else -1.0)

@@ -8,7 +8,7 @@ from avrora_tools.drawings import Drawing
 from avrora_tools.reporting import pages
 from avrora_tools.reporting.markup import Html
 
-STYLES, SCRIPTS = ("page.css", "timeline.css"), ("timeline.js",)
+STYLES, SCRIPTS = ("page.css", "timeline.css"), ("events.js", "lanes.js", "timeline.js")
 
 
 @dataclass(frozen=True)
@@ -46,7 +46,12 @@ def content(
     texts: dict[str, int] = {}
     nodes: list[dict[str, object]] = []
     for node, lane in sorted(drawing.lanes.items()):
-        one: dict[str, object] = {"node": node, "name": drawing.name(node), "state": lane.state, "closed": drawing.closed(node)}
+        one: dict[str, object] = {
+            "node": node,
+            "name": drawing.name(node),
+            "state": lane.state,
+            "closed": drawing.closed(node),
+        }
         one |= {kind: drawings.flat(thinning.of(kind, lane), kind) if thinning else [] for kind in drawings.FIELDS}
         if lane.where:
             one["where"] = {cycle: texts.setdefault(text, len(texts)) for cycle, text in lane.where.items()}

@@ -47,7 +47,9 @@ def shown_move(move: Move) -> str:
 
 def shown_stretches(finding: Finding) -> str:
     stretches = grouping.spans(finding.failing)
-    words = ", ".join(f"{first:,}" if first == last else f"{first:,} to {last:,}" for first, last in stretches[:MOST_SPANS])
+    words = ", ".join(
+        f"{first:,}" if first == last else f"{first:,} to {last:,}" for first, last in stretches[:MOST_SPANS]
+    )
     more = len(stretches) - MOST_SPANS
     return words + (f" and {more:,} more stretches" if more > 0 else "")
 
@@ -83,7 +85,9 @@ def lines_of(number: int, one: Told) -> list[str]:
 # ---- for a page
 
 
-def search_of(sweep: Sweep, options: Options, every: Sequence[Told], commands: Sequence[str], earliest: str | None) -> Search:
+def search_of(
+    sweep: Sweep, options: Options, every: Sequence[Told], commands: Sequence[str], earliest: str | None
+) -> Search:
     """The sweep and its findings as data."""
     results, moved = sweep.results, sweep.scenario.moved
     moves = sum(len(cell.arrivals.moves) for cell in sweep.cells)
