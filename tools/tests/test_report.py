@@ -4,13 +4,15 @@ import json
 import os
 import re
 import shutil
+import subprocess
+import sys
 
 import pytest
 
 from avrora_tools.reporting import code_sections, pages, resting
 from firmware import PROGRAM, compiled, needs_compiler, needs_program
 from pages_read import Page, check_policy, number
-from support import TOP, run_tool
+from support import LONG, TOP, run_tool
 
 pytest.importorskip("elftools", reason="needs elftools (Debian's python3-pyelftools)")
 pytestmark = [needs_program, needs_compiler]
@@ -37,6 +39,12 @@ def built(place, name, cycles=400_000):
     return elf
 
 
+def simulated(place, path, *words):
+    """Writes what the program writes to a file."""
+    with open(path, "wb") as file:
+        subprocess.run([PROGRAM, *words], cwd=place, stdout=file, check=True, timeout=LONG)
+
+
 def report(place, name, *words):
     out = place / "out.html"
     status, said, err = run_tool("report", *map(str, words), "-o", str(out), str(place / f"{name}.toml"))
@@ -61,9 +69,8 @@ def test_numbers_are_those_of_the_other_tools(name, tmp_path):
 def check_against_tools(page, place, scenario, trace, profile, elf):
     cycles = re.search(r"(?m)^cycles = ([\d_]+)", open(scenario).read())[1].replace("_", "")
     name = os.path.basename(scenario)
-    written = {trace: f"run --plain {name}", profile: f"monitor {name} 0 {cycles}"}
-    for path, words in written.items():
-        os.system(f"cd '{place}' && '{PROGRAM}' {words} > '{path}'")
+    simulated(place, trace, "run", "--plain", name)
+    simulated(place, profile, "monitor", name, "0", cycles)
     out = run_tool("profile", "-s", scenario, "-e", str(elf), "--coverage", profile)[1]
     flat = out.partition("all nodes\n")[2].partition("\n\n")[0].splitlines()[1:]
     told = [(line.split()[0], line.split("  ")[-1].strip()) for line in flat]
@@ -115,9 +122,8 @@ def test_a_network_of_64(tmp_path):
     _, page, _ = report(place, "net", *words)
     assert len(page.text) < pages.LARGEST_PAGE
     name = os.path.basename(scenario)
-    os.system(
-        f"cd '{place}' && '{PROGRAM}' run --plain {name} > '{trace}' && '{PROGRAM}' monitor {name} 0 200000 >
-    '{profile}'" )
+    simulated(place, trace, "run", "--plain", name)
+    simulated(place, profile, "monitor", name, "0", "200000")
     rows = [line.split() for line in open(trace)]
     nodes = page.data["timeline-data"]["nodes"]
     assert len(nodes) == 64
@@ -159,7 +165,7 @@ def test_call_stacks_are_those_of_export(tmp_path):
         (place / "packet.toml").read_text().replace("cycles = 737_280", "cycles = 175_000\nwindow = [160_000, 175_000]")
     )
     (place / "window.toml").write_text(windowed)
-    os.system(f"cd '{place}' && '{PROGRAM}' run --plain window.toml > window.trace")
+    simulated(place, str(place / "window.trace"), "run", "--plain", "window.toml")
     out = run_tool(
         "export", "folded", "-s", str(place / "window.toml"), "-e", f"0-2={elf}", str(place / "window.trace")
     )[1]
@@ -179,7 +185,7 @@ def test_coverage_is_that_of_export(tmp_path):
     place = place_of(tmp_path, "packet")
     elf = built(place, "packet")
     _, page, _ = report(place, "packet", "-e", elf, "--no-sleep", "--lcov", place / "own.info")
-    os.system(f"cd '{place}' && '{PROGRAM}' monitor packet.toml 0 737280 > profile")
+    simulated(place, str(place / "profile"), "monitor", "packet.toml", "0", "737280")
     words = ["-s", str(place / "packet.toml"), "-e", f"0-2={elf}", str(place / "profile")]
     status, out, err = run_tool("export", "lcov", *words)
     assert status == 0 and (place / "own.info").read_text() == out, err
@@ -230,8 +236,9 @@ def test_a_source_that_lies_elsewhere_is_not_shown(tmp_path):
     place.mkdir()
     (tmp_path / "secret").write_text(f"{SECRET}\n" * 9)
     (place / "link.c").symlink_to(tmp_path / "secret")
-    source = f'int main(void) {{\n#line 1 "{tmp_path}/secret"\n volatile int i = 1; i++;\n#line 2 "link.c"\n i++;\n
-    return i; }}\n' (place / "a.c").write_text(source)
+    named = f'\n#line 1 "{tmp_path}/secret"\n volatile int i = 1; i++;\n#line 2 "link.c"\n i++;\n return i; '
+    source = f"int main(void) {{{named}}}\n"
+    (place / "a.c").write_text(source)
     elf = built(place, "a", 10_000)
     _, page, _ = report(place, "a", "-e", elf, "--no-sleep")
     assert SECRET not in page.text and "secret: " in page.text  # its lines are counted
@@ -280,6 +287,49 @@ def test_what_does_not_fit_is_thinned(tmp_path, monkeypatch):
     monkeypatch.setattr(pages, "LARGEST_PAGE", 100_000)
     _, page, said = report(place, "packet", "-e", elf, "--no-sleep")
     assert "thinned to one in" in said and page.data["timeline-data"]["thinned"]
+
+
+MINUTE = 442_368_000  # cycles
+
+# A simulator whose nodes sleep: of `monitor` a report.
+SLEEPER = f"""#!{sys.executable} -IS
+for node in range(64):
+    for line in ("lead 0", "at 0000 1 1", "asleep {MINUTE - 1}", "stopped 0", "charge {MINUTE + 7}"):
+        print(node, line)
+"""
+
+
+def test_a_minute_of_64_nodes_fits(tmp_path):
+    """A line of nodes that pass on what they hear 1,500 times, and write 500 lines each, as a trace."""
+    links = "".join(f"[[link]]\nfrom = {node}\nto = {node + 1}\n" for node in range(63))
+    nodes = '[[node]]\nimage = "a.hex"\n' * 64
+    top = f"version = 3\ncycles = {MINUTE}\nlatency = 100\nbyte_time = 512\n"
+    (tmp_path / "net.toml").write_text(top + nodes + links)
+    (tmp_path / "a.hex").write_text(":00000001FF\n")
+    (tmp_path / "avrora").write_text(SLEEPER)
+    (tmp_path / "avrora").chmod(0o755)
+    rows = []
+    for turn in range(1_500):
+        begin = turn * 290_000
+        rows += [(begin + 4_000 * node, node, 2, f"sent {turn % 256:02X}") for node in range(64)]
+        rows += [(begin + 4_000 * node + 132, node + 1, 3, f"heard 1 {turn % 256:02X} 2") for node in range(63)]
+        if turn % 3 == 0:
+            text = f"turn {turn} of 1500, all is well\n".encode()
+            rows += [
+                (begin + 2_000 + 1_000 * place, node, 1, f"serial {byte:02X}")
+                for node in range(64) for place, byte in enumerate(text)
+            ]  # fmt: skip
+    rows = [f"{cycle} {node} {what}\n" for cycle, node, _, what in sorted(rows)]
+    rows += [f"{MINUTE} {node} end 1 asleep\n" for node in range(64)]
+    assert len(rows) > 1_000_000
+    (tmp_path / "net.trace").write_text("".join(rows))
+    words = ["--avrora", tmp_path / "avrora", "--trace", tmp_path / "net.trace", "--no-sleep"]
+    status, page, said = report(tmp_path, "net", *words)
+    assert status == 0 and len(page.text) < 5_000_000 and "thinned to one in" in said
+    assert page.column("quality", "clean") == ["1,500"] * 63 and page.column("nodes", "sent")[:-1] == ["1,500"] * 64
+    assert "31,000 more lines" in page.text and "64 nodes: 32,000 lines" in page.text
+    thinned = page.data["timeline-data"]["nodes"]
+    assert min(len(node["sent"]) for node in thinned) > 2 * 500  # what a pixel can show is there
 
 
 def test_bad_words_and_files(tmp_path):
