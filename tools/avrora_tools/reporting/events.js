@@ -83,7 +83,8 @@ function makeEvents(data) {
   // What an event is, in words.
   function told(node, kind, event) {
     if (kind === "sent") return "sent " + inWords(event[1]);
-    if (kind === "heard") return "heard " + inWords(event[1]) + (event[3] >= 0 ? " of node " + event[3] : "") + ", age " + event[2];
+    if (kind === "heard") return "heard " + inWords(event[1]) + (event[3] >= 0 ? " of node " + event[3] : "") +
+      ", age " + event[2];
     if (kind === "serial") return "wrote " + inWords(event[1]) + " to USART0";
     if (kind === "enter") return "interrupt " + (data.vectors[event[1]] || event[1]);
     if (kind === "stop") return "stopped at " + event[1];
@@ -95,16 +96,19 @@ function makeEvents(data) {
   // What holds at a cycle of a node: sleep, closed links.
   function around(node, cycle) {
     const lines = [], nap = node.asleep[place(node.asleep, cycle + 1) - 1];
-    if (nap && cycle < nap[0] + nap[1]) lines.push("asleep from " + grouped(nap[0]) + ", " + grouped(nap[1]) + " cycles");
+    if (nap && cycle < nap[0] + nap[1]) lines.push("asleep from " + grouped(nap[0]) + ", " + grouped(nap[1]) +
+      " cycles");
     else if (node.rest) {
       const i = data.buckets.findIndex((end, at) => at && cycle < end) - 1;
       if (i >= 0) {
         const [first, end] = [data.buckets[i], data.buckets[i + 1]];
-        lines.push(`asleep ${(100 * node.rest[i] / (end - first)).toFixed(1)}% of ${grouped(first)} to ${grouped(end)}`);
+        const part = (100 * node.rest[i] / (end - first)).toFixed(1);
+        lines.push(`asleep ${part}% of ${grouped(first)} to ${grouped(end)}`);
       }
     }
     for (const [first, end, sender] of node.closed) {
-      if (cycle >= first && cycle < end) lines.push("the link from node " + sender + " is closed until " + grouped(end));
+      if (cycle >= first && cycle < end) lines.push("the link from node " + sender + " is closed until " +
+        grouped(end));
     }
     for (const [stop, cause] of node.stop) if (cycle >= stop) lines.push("stopped at " + cause);
     return lines;

@@ -22,7 +22,8 @@ function makeFlames(data) {
   }
   const share = node => (100 * node.total / graph.total).toFixed(2) + "%";
   const path = node => node.above ? (node.above.above ? path(node.above) + " > " : "") + node.name : node.name;
-  const told = node => `${path(node)}: ${node.total.toLocaleString("en")} cycles, ${share(node)}; its own ${node.own.toLocaleString("en")}`;
+  const shown = number => number.toLocaleString("en");
+  const told = node => `${path(node)}: ${shown(node.total)} cycles, ${share(node)}; its own ${shown(node.own)}`;
   // A function has its colour wherever it stands; handlers of interrupts have theirs.
   function colour(name) {
     if (/_vect$/.test(name)) return "flame-handler";
@@ -46,9 +47,10 @@ function makeFlames(data) {
       if (wide < LEAST) return;
       deepest = Math.max(deepest, depth);
       const group = made("g", { tabindex: wide > 3 ? 0 : -1, role: "button", "aria-label": told(node) });
-      const found = wanted && node.name.toLowerCase().includes(wanted);
+      const isFound = wanted && node.name.toLowerCase().includes(wanted);
+      const mark = !wanted || node === graph ? "" : isFound ? " flame-found" : " flame-other";
       group.append(made("rect", { x: left, y: depth * ROW, width: Math.max(0.2, wide - 0.6), height: ROW - 1,
-        class: node === graph ? "flame-root" : colour(node.name) + (found ? " flame-found" : wanted ? " flame-other" : "") }));
+        class: (node === graph ? "flame-root" : colour(node.name)) + mark }));
       const room = Math.floor((wide - 6) / LETTER);
       if (room > 2) {
         const text = made("text", { x: left + 4, y: depth * ROW + 14 });
@@ -57,8 +59,10 @@ function makeFlames(data) {
       }
       const zoom = () => { top = node; draw(); status.textContent = told(node); };
       group.addEventListener("click", zoom);
-      group.addEventListener("keydown", event => { if (event.key === "Enter" || event.key === " ") { event.preventDefault(); zoom(); } });
-      for (const kind of ["mouseenter", "focus"]) group.addEventListener(kind, () => { status.textContent = told(node); });
+      group.addEventListener("keydown",
+        event => { if (event.key === "Enter" || event.key === " ") { event.preventDefault(); zoom(); } });
+      for (const kind of ["mouseenter", "focus"]) group.addEventListener(kind,
+        () => { status.textContent = told(node); });
       svg.append(group);
     };
     above.forEach((node, depth) => put(node, 0, width, depth));
@@ -79,7 +83,8 @@ function makeFlames(data) {
   chooser.parentElement.hidden = data.graphs.length < 2;
   chooser.addEventListener("change", () => { graph = top = whole[chooser.value]; status.textContent = ""; draw(); });
   find.addEventListener("input", draw);
-  document.getElementById("flame-all").addEventListener("click", () => { top = graph; status.textContent = ""; draw(); });
+  document.getElementById("flame-all").addEventListener("click",
+    () => { top = graph; status.textContent = ""; draw(); });
   place.addEventListener("keydown", event => { if (event.key === "Escape") { top = graph; draw(); } });
   addEventListener("resize", draw);
   addEventListener("beforeprint", draw);

@@ -1,10 +1,11 @@
 "use strict";
-// A histogram of the runs of a campaign: a bar for each value of a parameter, of how many runs came to what, or of a number
-// that runs came to, from its least to its greatest with its mean.
+// A histogram of the runs of a campaign: a bar for each value of a parameter, of how many runs came to what, or of a
+// number that runs came to, from its least to its greatest with its mean.
 
 function makeHistogram(data) {
   const place = document.getElementById("histogram"), status = document.getElementById("histogram-status");
-  const parameter = document.getElementById("histogram-parameter"), outcome = document.getElementById("histogram-outcome");
+  const parameter = document.getElementById("histogram-parameter"),
+    outcome = document.getElementById("histogram-outcome");
   const SVG = "http://www.w3.org/2000/svg", HIGH = 280, TOP = 14, LEFT = 62, RUNS = "runs by what they came to";
   const made = (name, attributes, text = "") => {
     const element = document.createElementNS(SVG, name);
@@ -12,7 +13,8 @@ function makeHistogram(data) {
     element.textContent = text;
     return element;
   };
-  const shown = number => Number.isInteger(number) ? number.toLocaleString("en") : Number(number.toPrecision(4)).toLocaleString("en");
+  const rounded = number => Number.isInteger(number) ? number : Number(number.toPrecision(4));
+  const shown = number => rounded(number).toLocaleString("en");
 
   function ticks(greatest) {
     let unit = 10 ** Math.floor(Math.log10(greatest / 5 || 1));
@@ -21,9 +23,12 @@ function makeHistogram(data) {
   }
 
   function draw() {
-    const { name, bins } = data.parameters[parameter.value], width = Math.max(300, place.clientWidth), isRuns = outcome.value === RUNS;
-    const sum = bin => Object.values(bin.outcomes).reduce((a, b) => a + b, 0), measure = bin => bin.measures[outcome.value];
-    const greatest = Math.max(isRuns ? 1 : 1e-9, ...bins.map(bin => isRuns ? sum(bin) : measure(bin) ? measure(bin)[1] : 0));
+    const { name, bins } = data.parameters[parameter.value], width = Math.max(300, place.clientWidth),
+      isRuns = outcome.value === RUNS;
+    const sum = bin => Object.values(bin.outcomes).reduce((a, b) => a + b, 0),
+      measure = bin => bin.measures[outcome.value];
+    const greatest = Math.max(isRuns ? 1 : 1e-9,
+      ...bins.map(bin => isRuns ? sum(bin) : measure(bin) ? measure(bin)[1] : 0));
     const wide = (width - LEFT - 10) / bins.length, slanted = bins.some(bin => bin.label.length * 6.4 > wide - 4);
     const svg = made("svg", { viewBox: `0 0 ${width} ${TOP + HIGH + (slanted ? 76 : 24)}`, role: "img", "font-size": 11,
       "aria-label": `${outcome.value} by ${name}` });
@@ -41,12 +46,16 @@ function makeHistogram(data) {
         for (const word of data.outcomes) {
           const count = bin.outcomes[word] || 0;
           if (!count) continue;
-          group.append(made("rect", { class: "fill-" + data.colours[word], x, y: y(base + count), width: bar, height: y(base) - y(base + count) }));
+          group.append(made("rect",
+            { class: "fill-" + data.colours[word], x, y: y(base + count), width: bar,
+              height: y(base) - y(base + count) }));
           base += count; words.push(`${shown(count)} ${word}`);
         }
       } else if (measure(bin)) {
         const [least, most, all, count] = measure(bin), mean = all / count;
-        group.append(made("rect", { class: "fill-listening", x: middle - bar / 4, y: y(most), width: bar / 2, height: Math.max(1.5, y(least) - y(most)) }));
+        group.append(made("rect",
+          { class: "fill-listening", x: middle - bar / 4, y: y(most), width: bar / 2,
+            height: Math.max(1.5, y(least) - y(most)) }));
         group.append(made("rect", { class: "fill-sent", x, y: y(mean) - 1.5, width: bar, height: 3 }));
         words.push(`${shown(least)} to ${shown(most)}, mean ${shown(mean)}, of ${shown(count)} runs`);
       }
@@ -63,7 +72,8 @@ function makeHistogram(data) {
     place.replaceChildren(svg);
     const key = document.createElement("p");
     key.className = "keys";
-    const entries = isRuns ? data.outcomes.map(word => [data.colours[word], word]) : [["listening", "from the least to the greatest"], ["sent", "mean"]];
+    const spans = [["listening", "from the least to the greatest"], ["sent", "mean"]];
+    const entries = isRuns ? data.outcomes.map(word => [data.colours[word], word]) : spans;
     for (const [colour, word] of entries) {
       const swatch = made("svg", { width: 12, height: 12, class: "swatch" }), entry = document.createElement("span");
       swatch.append(made("rect", { width: 12, height: 12, class: "fill-" + colour }));

@@ -4,11 +4,11 @@
 const TOP = 24, RIGHT = 10, LEAST_ROW = 14, MOST_ROW = 190, ROOMY = 42, DETAIL = 130, STRIP = 38;
 // Of a roomy lane: where each part begins, and how high it is.
 const BAND = { sent: [0.06, 0.34], serial: [0.40, 0.26], heard: [0.70, 0.28] };
-const PAINTS = ["paper", "panel", "ink", "faint", "rule", "focus", "sent", "heard", "clash", "quiet", "serial", "asleep",
-  "enter", "window", "closed", "stopped", "stop"];
+const PAINTS = ["paper", "panel", "ink", "faint", "rule", "focus", "sent", "heard", "clash", "quiet", "serial",
+  "asleep", "enter", "window", "closed", "stopped", "stop"];
 
-// Paints the state `it` of a timeline on its two canvases; `shown` tells which kinds of events are, `isPainted` is called
-// behind each painting.
+// Paints the state `it` of a timeline on its two canvases; `shown` tells which kinds of events are, `isPainted` is
+// called behind each painting.
 function makeLanes(it, root, events, shown, isPainted) {
   const { data } = it, { byNumber } = events;
   const sky = document.getElementById("sky"), strip = document.getElementById("strip");
@@ -37,7 +37,8 @@ function makeLanes(it, root, events, shown, isPainted) {
     readColours();
     width = root.clientWidth;
     left = width < 640 ? 30 : Math.min(170, 30 + 7 * Math.max(...data.nodes.map(node => node.name.length)));
-    const room = fills ? root.clientHeight - sky.offsetTop - DETAIL - 34 : Math.max(300, Math.min(innerHeight - 260, 620));
+    const beside = Math.max(300, Math.min(innerHeight - 260, 620));  // in a page with other parts
+    const room = fills ? root.clientHeight - sky.offsetTop - DETAIL - 34 : beside;
     it.step = Math.max(LEAST_ROW, Math.min(fills ? MOST_ROW : 110, Math.floor((room - TOP - 4) / data.nodes.length)));
     height = y(data.nodes.length) + 4;
     fitted(sky, width, height);
@@ -89,31 +90,35 @@ function makeLanes(it, root, events, shown, isPainted) {
     pen.globalAlpha = 1;
     const [first, end] = data.window;
     if (node.rest && end > first) {  // where it is known exactly
-      pen.fillStyle = colours.paper; pen.fillRect(x(first), top, x(end) - x(first), high); pen.fillStyle = colours.asleep;
+      pen.fillStyle = colours.paper; pen.fillRect(x(first), top, x(end) - x(first), high);
+      pen.fillStyle = colours.asleep;
     }
     for (const [cycle, cycles] of node.asleep) pen.fillRect(x(cycle), top, Math.max(0.5, cycles * scale()), high);
   }
 
   function drawNode(node, row) {
     const top = y(row), high = it.step - 3, bar = data.byteTime * scale(), roomy = high >= ROOMY;
-    const [sentTop, sentHigh] = roomy ? BAND.sent : [0.04, 0.4], [heardTop, heardHigh] = roomy ? BAND.heard : [0.64, 0.36];
+    const [sentTop, sentHigh] = roomy ? BAND.sent : [0.04, 0.4];
+    const [heardTop, heardHigh] = roomy ? BAND.heard : [0.64, 0.36];
     pen.fillStyle = colours.rule; pen.fillRect(0, top + high + 1, width, 1);
     pen.save(); pen.beginPath(); pen.rect(left, top, width - left, high + 1); pen.clip();
     for (const [cycle] of node.stop) { pen.fillStyle = colours.stopped; pen.fillRect(x(cycle), top, width, high); }
     drawSleep(node, top, high);
     pen.fillStyle = colours.closed;
     for (const [first, end] of node.closed) {
-      for (let px = Math.max(left, x(first)); px < Math.min(width, x(end)); px += 4) pen.fillRect(px, top + high - 2, 2, 2);
+      const last = Math.min(width, x(end));
+      for (let px = Math.max(left, x(first)); px < last; px += 4) pen.fillRect(px, top + high - 2, 2, 2);
     }
     pen.fillStyle = colours.enter;
     if (shown("enter")) eachInSight(node.enter, 0, px => pen.fillRect(px, top, 1.2, Math.min(9, high * 0.3)));
     const font = Math.max(9, Math.min(13, high * sentHigh - 3));
     pen.font = font + "px sans-serif"; pen.textAlign = "left";
     if (shown("sent")) eachInSight(node.sent, data.byteTime, (px, event) => {
-      const long = Math.max(1, bar - 0.6), words = isVisible(event[1]) && bar > 46 ? inWords(event[1]) : inHex(event[1]);
+      const long = Math.max(1, bar - 0.6), words = (bar > 46 ? inWords : inHex)(event[1]);
       pen.fillStyle = colours.sent; pen.fillRect(px, top + high * sentTop, long, high * sentHigh);
       pen.fillStyle = colours.paper;
-      if (bar > 22 && high * sentHigh > 9) pen.fillText(words, Math.max(px, left) + 3, top + high * (sentTop + sentHigh / 2) + font * 0.36);
+      const middle = top + high * (sentTop + sentHigh / 2) + font * 0.36;
+      if (bar > 22 && high * sentHigh > 9) pen.fillText(words, Math.max(px, left) + 3, middle);
     });
     pen.fillStyle = colours.quiet;
     if (shown("quiet")) eachInSight(node.quiet, 0, px => pen.fillRect(px, top + high * 0.8, 0.7, high * 0.2));
@@ -148,7 +153,8 @@ function makeLanes(it, root, events, shown, isPainted) {
     let last = -1e9, room = -1e9;
     pen.font = size + "px monospace"; pen.textAlign = "left";
     const letter = pen.measureText("m").width, inText = [];
-    if (high >= 20) for (let i = Math.max(0, place(node.lines, it.from) - 1); i < node.lines.length && node.lines[i][0] < it.to; i++) {
+    const before = high >= 20 ? Math.max(0, place(node.lines, it.from) - 1) : node.lines.length;
+    for (let i = before; i < node.lines.length && node.lines[i][0] < it.to; i++) {
       const [first, cycles, text] = node.lines[i], next = node.lines[i + 1];
       const begin = Math.max(x(first), left + 2), end = next ? Math.min(x(next[0]), width) : width;
       const most = Math.floor((end - begin - 4) / letter);
@@ -164,8 +170,9 @@ function makeLanes(it, root, events, shown, isPainted) {
       while (told < inText.length && inText[told][1] < event[0]) told++;
       const isEnd = event[1] === 13 || event[1] === 10;  // of a line, which its text shows
       if (told < inText.length && event[0] >= inText[told][0] || isEnd && inText.length) return;
-      if (isVisible(event[1]) && high >= 20 && px - last > letter + 1) pen.fillText(String.fromCharCode(event[1]), px, middle + size * 0.36);
-      else { pen.beginPath(); pen.arc(px, middle, Math.min(2.5, high * 0.16), 0, 7); pen.fill(); }
+      if (isVisible(event[1]) && high >= 20 && px - last > letter + 1) {
+        pen.fillText(String.fromCharCode(event[1]), px, middle + size * 0.36);
+      } else { pen.beginPath(); pen.arc(px, middle, Math.min(2.5, high * 0.16), 0, 7); pen.fill(); }
       last = px;
     });
   }
@@ -193,20 +200,23 @@ function makeLanes(it, root, events, shown, isPainted) {
       const px = x(it.marks[name]);
       if (px < left || px > width) continue;
       pen.fillStyle = colours.focus; pen.fillRect(px, TOP - 8, 1.5, height); pen.fillRect(px - 6, 0, 13, 14);
-      pen.fillStyle = colours.paper; pen.textAlign = "center"; pen.font = "bold 11px sans-serif"; pen.fillText(name, px + 0.5, 11);
+      pen.fillStyle = colours.paper; pen.textAlign = "center"; pen.font = "bold 11px sans-serif";
+      pen.fillText(name, px + 0.5, 11);
     }
     if (it.pointer !== null) { pen.fillStyle = colours.faint; pen.fillRect(x(it.pointer), TOP - 8, 0.8, height); }
   }
 
   // The whole run: how much is sent, where something clashes or stops, and which part of it is shown below.
   function drawStrip() {
-    const whole = data.end - data.first, wide = Math.max(1, Math.floor(width - left - RIGHT)), high = 38, base = high - 9;
+    const whole = data.end - data.first, wide = Math.max(1, Math.floor(width - left - RIGHT)), high = 38,
+      base = high - 9;
     const at = cycle => left + (cycle - data.first) * wide / whole;
     const ratio = devicePixelRatio || 1;
     thin.setTransform(ratio, 0, 0, ratio, 0, 0);
     thin.fillStyle = colours.panel; thin.fillRect(0, 0, width, high);
     if (!it.strip || it.strip.wide !== wide) {
-      const columns = { wide, sent: new Float64Array(wide + 1), serial: new Float64Array(wide + 1), clash: new Float64Array(wide + 1) };
+      const columns = { wide, sent: new Float64Array(wide + 1), serial: new Float64Array(wide + 1),
+        clash: new Float64Array(wide + 1) };
       for (const node of data.nodes) for (const kind of ["sent", "serial", "clash"]) for (const event of node[kind]) {
         columns[kind][Math.floor((event[0] - data.first) * wide / whole)]++;
       }
@@ -216,14 +226,17 @@ function makeLanes(it, root, events, shown, isPainted) {
     const most = Math.max(1, ...sent, ...serial);
     for (let px = 0; px < wide; px++) {
       const tall = count => count ? 3 + (base - 5) * Math.log1p(count) / Math.log1p(most) : 0;
-      if (serial[px]) { thin.fillStyle = colours.serial; thin.fillRect(left + px, base - tall(serial[px]), 1, tall(serial[px])); }
-      if (sent[px]) { thin.fillStyle = colours.sent; thin.fillRect(left + px, base - tall(sent[px]), 1, tall(sent[px])); }
+      for (const [counts, colour] of [[serial, colours.serial], [sent, colours.sent]]) {
+        thin.fillStyle = colour;
+        if (counts[px]) thin.fillRect(left + px, base - tall(counts[px]), 1, tall(counts[px]));
+      }
       if (clash[px]) { thin.fillStyle = colours.clash; thin.fillRect(left + px - 0.5, base + 2, 2, 6); }
     }
     thin.fillStyle = colours.stop;
     for (const node of data.nodes) for (const [cycle] of node.stop) thin.fillText("\u25B6", at(cycle) - 3, base + 8);
     const [first, end] = data.window;
-    if (end > first) { thin.fillStyle = colours.window; thin.fillRect(at(first), 0, Math.max(2, at(end) - at(first)), 3); }
+    thin.fillStyle = colours.window;
+    if (end > first) thin.fillRect(at(first), 0, Math.max(2, at(end) - at(first)), 3);
     thin.fillStyle = colours.stopped; thin.globalAlpha = 0.7;
     thin.fillRect(left, 0, at(it.from) - left, high); thin.fillRect(at(it.to), 0, left + wide - at(it.to), high);
     thin.globalAlpha = 1; thin.fillStyle = colours.focus;

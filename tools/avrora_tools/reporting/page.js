@@ -21,7 +21,8 @@ function makeSortable(table) {
     button.type = "button"; button.className = "sort"; button.textContent = title.textContent;
     title.replaceChildren(button);
     button.addEventListener("click", () => {
-      const falls = title.getAttribute("aria-sort") === "ascending" || !title.hasAttribute("aria-sort") && title.classList.contains("n");
+      const falls = title.getAttribute("aria-sort") === "ascending" || !title.hasAttribute("aria-sort") &&
+        title.classList.contains("n");
       for (const other of table.tHead.rows[0].cells) other.removeAttribute("aria-sort");
       title.setAttribute("aria-sort", falls ? "descending" : "ascending");
       const rows = [...body.rows].map((row, place) => [cellValue(row, column), place, row]);
@@ -50,7 +51,8 @@ for (const field of document.querySelectorAll("input[data-filter]")) makeFilter(
 const MOST_PRINTED = 4000;
 let opened = [];
 addEventListener("beforeprint", () => {
-  opened = [...document.querySelectorAll("main details:not([open])")].filter(one => one.textContent.length < MOST_PRINTED);
+  opened = [...document.querySelectorAll("main details:not([open])")].filter(one =>
+    one.textContent.length < MOST_PRINTED);
   for (const one of opened) one.open = true;
 });
 addEventListener("afterprint", () => { for (const one of opened) one.open = false; });

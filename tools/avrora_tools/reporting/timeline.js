@@ -28,7 +28,8 @@ function makeTimeline(data) {
 
   function tellStatus() {
     element("cursor").textContent = it.pointer === null ? "" : "cycle " + both(it.pointer);
-    element("span").textContent = "shown: " + grouped(it.from) + " to " + grouped(it.to) + ", " + seconds(it.to - it.from);
+    element("span").textContent = "shown: " + grouped(it.from) + " to " + grouped(it.to) + ", " +
+      seconds(it.to - it.from);
     const { A, B } = it.marks;
     const parts = [A === null ? "" : "A " + both(A), B === null ? "" : "B " + both(B)].filter(part => part);
     if (A !== null && B !== null) parts.push("B \u2212 A: " + both(Math.round(B) - Math.round(A)));
@@ -37,7 +38,8 @@ function makeTimeline(data) {
 
   // ---- what is near the pointer, and what is chosen
 
-  // The event nearest to a cycle of a node, at most so many cycles off: kind, event; where several are as near, the weightiest.
+  // The event nearest to a cycle of a node, at most so many cycles off: kind, event; where several are as near, the
+  // weightiest.
   function nearest(node, cycle, off) {
     let best = null;
     for (const kind of CHOSEN) {
@@ -80,7 +82,8 @@ function makeTimeline(data) {
   function tellChosen() {
     detail.replaceChildren();
     if (!it.chosen) {
-      detail.append(make("p", "Click an event, or move the pointer over it: who sent it, who heard it, with whom it clashed.",
+      detail.append(make("p",
+        "Click an event, or move the pointer over it: who sent it, who heard it, with whom it clashed.",
         { className: "faint" }));
       return;
     }
@@ -106,7 +109,8 @@ function makeTimeline(data) {
       const line = node.lines[place(node.lines, event[0] + 1) - 1];
       if (line && event[0] <= line[0] + line[1]) fact(list, "line", make("code", line[2]));
     }
-    fact(list, "to look closer", ...commandsAbout(node, kind, event).map(text => make("code", text, { className: "command" })));
+    fact(list, "to look closer",
+      ...commandsAbout(node, kind, event).map(text => make("code", text, { className: "command" })));
   }
 
   function choose(number, cycle, keepsView = false) {
@@ -116,7 +120,8 @@ function makeTimeline(data) {
     it.ways = found ? waysOf(number, found.kind, found.event) : [];
     if (found && !keepsView && (found.event[0] < it.from || found.event[0] >= it.to)) goTo(found.event[0]);
     tellChosen(); draw();
-    try { history.replaceState(null, "", found ? `#${found.event[0]}@${number}` : "#timeline"); } catch { /* a page without a history */ }
+    const place_ = found ? `#${found.event[0]}@${number}` : "#timeline";
+    try { history.replaceState(null, "", place_); } catch { /* a page without a history */ }
     return found;
   }
 
@@ -158,18 +163,22 @@ function makeTimeline(data) {
 
   function goToClash(forward) {
     const whole = it.from <= data.first && it.to >= data.end, near = (it.to - it.from) / 1e4 + 0.5;
-    const base = it.chosen && it.chosen.kind === "clash" ? it.chosen.event[0] : whole ? forward ? -1 : Infinity : (it.from + it.to) / 2;
-    const found = forward ? clashes.find(([cycle]) => cycle > base + near) : clashes.findLast(([cycle]) => cycle < base - near);
+    const edge = forward ? -1 : Infinity, seen = whole ? edge : (it.from + it.to) / 2;
+    const base = it.chosen && it.chosen.kind === "clash" ? it.chosen.event[0] : seen;
+    const found = forward
+      ? clashes.find(([cycle]) => cycle > base + near)
+      : clashes.findLast(([cycle]) => cycle < base - near);
     if (!found) return;
     goTo(found[0]);
     choose(found[1], found[0]);
-    const place_ = sky.getBoundingClientRect().top + y(byNumber.get(found[1]).row);
-    if (place_ < 60 || place_ > innerHeight - 60) scrollBy(0, place_ - innerHeight / 2);
+    const at = sky.getBoundingClientRect().top + y(byNumber.get(found[1]).row);
+    if (at < 60 || at > innerHeight - 60) scrollBy(0, at - innerHeight / 2);
   }
 
   // The event before or behind the chosen one of its node.
   function goToEvent(forward) {
-    const node = it.chosen ? byNumber.get(it.chosen.node).node : data.nodes[0], base = it.chosen ? it.chosen.event[0] : middle();
+    const node = it.chosen ? byNumber.get(it.chosen.node).node : data.nodes[0];
+    const base = it.chosen ? it.chosen.event[0] : middle();
     let best = null;
     for (const kind of CHOSEN) {
       if (!shown(kind)) continue;
@@ -180,7 +189,8 @@ function makeTimeline(data) {
   }
 
   function goToNode(by) {
-    const row = it.chosen ? byNumber.get(it.chosen.node).row + by : 0, node = data.nodes[Math.max(0, Math.min(row, data.nodes.length - 1))];
+    const row = it.chosen ? byNumber.get(it.chosen.node).row + by : 0;
+    const node = data.nodes[Math.max(0, Math.min(row, data.nodes.length - 1))];
     const cycle = it.chosen ? it.chosen.event[0] : middle(), found = nearest(node, cycle, data.end);
     if (found) choose(node.node, found.event[0]);
   }
@@ -198,7 +208,8 @@ function makeTimeline(data) {
   sky.addEventListener("wheel", event => {
     if (event.shiftKey || !fills && !event.ctrlKey && document.activeElement !== sky) return;
     event.preventDefault();
-    zoom(Math.exp(Math.max(-200, Math.min(200, event.deltaY)) / 400), cycleAt(event.clientX - sky.getBoundingClientRect().left));
+    zoom(Math.exp(Math.max(-200, Math.min(200, event.deltaY)) / 400),
+      cycleAt(event.clientX - sky.getBoundingClientRect().left));
   }, { passive: false });
   sky.addEventListener("pointerdown", event => {
     fingers.set(event.pointerId, event.clientX);
@@ -224,7 +235,8 @@ function makeTimeline(data) {
     fingers.delete(event.pointerId);
     if (!fingers.size) drag = null;
     if (!wasClick) return;
-    const frame = sky.getBoundingClientRect(), px = event.clientX - frame.left, node = data.nodes[rowAt(event.clientY - frame.top)];
+    const frame = sky.getBoundingClientRect(), px = event.clientX - frame.left,
+      node = data.nodes[rowAt(event.clientY - frame.top)];
     sky.focus({ preventScroll: true });
     if (event.shiftKey) { mark("B", cycleAt(px)); return; }
     if (event.clientY - frame.top < TOP) { mark("A", cycleAt(px)); return; }
@@ -236,7 +248,8 @@ function makeTimeline(data) {
   sky.addEventListener("pointerleave", () => { tip.hidden = true; it.pointer = null; draw(); });
   sky.addEventListener("dblclick", () => view(data.first, data.end));
 
-  const atStrip = event => data.first + (event.clientX - strip.getBoundingClientRect().left - it.left) * (data.end - data.first) / (it.width - it.left - RIGHT);
+  const acrossStrip = event => event.clientX - strip.getBoundingClientRect().left - it.left;
+  const atStrip = event => data.first + acrossStrip(event) * (data.end - data.first) / (it.width - it.left - RIGHT);
   let grip = null;
   strip.addEventListener("pointerdown", event => {
     const cycle = atStrip(event), near = 8 * (data.end - data.first) / it.width;
@@ -254,17 +267,21 @@ function makeTimeline(data) {
   strip.addEventListener("pointerup", () => { grip = null; });
 
   const deeds = {
-    before: () => goToClash(false), after: () => goToClash(true), in: () => zoom(0.5, middle()), out: () => zoom(2, middle()),
+    before: () => goToClash(false), after: () => goToClash(true),
+    in: () => zoom(0.5, middle()), out: () => zoom(2, middle()),
     all: () => view(data.first, data.end), markA: () => markHere("A"), markB: () => markHere("B"),
   };
-  for (const button of root.querySelectorAll("button[data-do]")) button.addEventListener("click", deeds[button.dataset.do]);
+  for (const button of root.querySelectorAll("button[data-do]")) {
+    button.addEventListener("click", deeds[button.dataset.do]);
+  }
   for (const box of root.querySelectorAll("input[data-kind]")) box.addEventListener("change", draw);
   element("goto").addEventListener("change", event => {
     const digits = event.target.value.replace(/[^0-9]/g, "");
     if (digits) goTo(Number(digits));
   });
   const keys = {
-    "+": deeds.in, "=": deeds.in, "-": deeds.out, "0": deeds.all, n: deeds.after, p: deeds.before, a: deeds.markA, b: deeds.markB,
+    "+": deeds.in, "=": deeds.in, "-": deeds.out, "0": deeds.all, n: deeds.after, p: deeds.before,
+    a: deeds.markA, b: deeds.markB,
     ArrowLeft: () => pan(-0.2), ArrowRight: () => pan(0.2), ArrowUp: () => goToNode(-1), ArrowDown: () => goToNode(1),
     ",": () => goToEvent(false), ".": () => goToEvent(true), g: () => element("goto").focus(),
     Escape: () => { it.chosen = null; it.ways = []; it.marks = { A: null, B: null }; tellChosen(); draw(); },
