@@ -335,6 +335,8 @@ def test_a_minute_of_64_nodes_fits(tmp_path):
 def test_bad_words_and_files(tmp_path):
     place = place_of(tmp_path, "packet")
     for words, why in (
+        (["--trace", "-"], "read more than once"),
+        (["--lcov", "x.info"], "--lcov wants the program"),
         (["--stacks", "900_000..910_000"], "the run ends in cycle 737,280"),
         (["--stacks", "0..30_000"], "a window has at most 20,000 cycles"),
         (["--findings", str(place / "packet.toml")], "no JSON"),

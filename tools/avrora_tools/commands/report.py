@@ -74,6 +74,8 @@ def configure(parser: argparse.ArgumentParser) -> None:
 
 def run(arguments: argparse.Namespace) -> int:
     path = arguments.scenario
+    if arguments.trace == files.STANDARD_STREAM:
+        raise BadWords("--trace is read more than once, so it is no standard input")
     if arguments.lcov and not arguments.elf:
         raise BadWords("--lcov wants the program (-e)")
     cases = [expectations.read_case(case) for case in arguments.expect]
