@@ -61,12 +61,13 @@ def test_numbers_are_those_of_the_other_tools(name, tmp_path):
     place = place_of(tmp_path, name)
     elf = built(place, name)
     scenario, trace, profile = (str(place / f"{name}.{ending}") for ending in ("toml", "trace", "profile"))
-    words = ["-e", elf, "--currents", f"{TOP}/examples/currents.toml", "--no-sleep", "--stacks", "2_000..5_000"]
-    _, page, _ = report(place, name, *words)
-    check_against_tools(page, place, scenario, trace, profile, elf)
+    words = ["-e", elf, "--currents", f"{TOP}/examples/currents.toml", "--no-sleep", "--stacks", "2_000..3_000"]
+    radio = [] if name == "echo" else ["--always-listening"]  # of one program radios are followed
+    _, page, _ = report(place, name, *words, *radio)
+    check_against_tools(page, place, scenario, trace, profile, elf, radio)
 
 
-def check_against_tools(page, place, scenario, trace, profile, elf):
+def check_against_tools(page, place, scenario, trace, profile, elf, radio):
     cycles = re.search(r"(?m)^cycles = ([\d_]+)", open(scenario).read())[1].replace("_", "")
     name = os.path.basename(scenario)
     simulated(place, trace, "run", "--plain", name)
@@ -95,7 +96,7 @@ def check_against_tools(page, place, scenario, trace, profile, elf):
                 for title in ("sent", "heard nothing", "heard a byte", "heard a clash")
             ]
             assert row == [sent, *heard] and number(samples) == sum(map(number, row[1:]))
-    out = run_tool("energy", f"{TOP}/examples/currents.toml", scenario, profile)[1]
+    out = run_tool("energy", *radio, f"{TOP}/examples/currents.toml", scenario, profile)[1]
     energies = [line.split()[:7] for line in out.splitlines() if re.match(r" +\d+ ", line)]
     titles = ("node", "awake", "listens", "sent", "mA", "mA h", "mA h a day")
     assert [list(row) for row in zip(*(page.column("charge", title) for title in titles))] == energies
