@@ -4,7 +4,9 @@
 # FOLDER is copied to OUT (./build where absent). There each NAME.c becomes NAME.hex, and so do all sources of a folder NAME.src
 # together, an image of several sources; and the cases, all NAME.expect, are run;
 # `avrora-tools expect --help` says what is in them. The report is OUT/junit.xml, and OUT/SHA256SUMS has the sums of all that
-# was built and checked. Each compilation and each case may take SECONDS (600). To try it with an example:
+# was built and checked. For a person to read, OUT/check.reports has a page of all cases (cases.html), and of each scenario that a
+# case runs a page (NAME.html) and its coverage for lcov (NAME.info). Each compilation, case and page may take SECONDS (600). To
+# try it with an example:
 #
 #   mkdir mine && cp relay.c relay.toml relay.expect mine && ci/check.sh mine
 #
@@ -12,7 +14,7 @@
 # so is .git. OUT must be new, empty, or of an earlier call, which is removed. SECURITY.md says what a compiler may still read.
 #
 # AVRORA_HOME names the unpacked archive, where this script does not lie in it. Without one avrora-tools is looked for on the
-# PATH, where the package puts it. From Debian: gcc-avr, avr-libc, python3, python3-junit.xml.
+# PATH, where the package puts it. From Debian: gcc-avr, avr-libc, python3, python3-junit.xml; for pages python3-pyelftools.
 # Exit status: 0 every case is met, 1 one is not or a source is refused, 2 no case or bad words, 3 something is not there.
 set -eu
 unset CDPATH
@@ -186,4 +188,36 @@ find . -type f ! -path ./.check.sh ! -path ./SHA256SUMS -print0 | LC_ALL=C sort 
 rm -rf -- SHA256SUMS
 mv -- .check.sh SHA256SUMS
 : >.check.sh
-exec avrora-tools expect --timeout "$seconds" --junit ./junit.xml "$@"
+# Pages and coverage are ours alone: a folder of that name that was copied here is gone.
+rm -rf -- check.reports
+mkdir -- check.reports
+status=0
+avrora-tools expect --timeout "$seconds" --junit ./junit.xml --html check.reports/cases.html "$@" || status=$?
+
+# A page of each scenario that lies here and that a case runs; one that cannot be made is told, and changes no status.
+page() {
+    scenario=$1
+    name=${scenario%.toml}
+    set --
+    for elf in ./*.elf; do
+        image=${elf#./}
+        image=${image%.elf}.hex
+        if [ -f "$elf" ] && grep -qF -- "$image" "./$scenario"; then
+            set -- "$@" -e "$elf"
+        fi
+    done
+    [ $# -eq 0 ] || set -- "$@" --lcov "check.reports/$name.info"
+    timeout -k 5 "$seconds" avrora-tools report --no-sleep --timeout "$seconds" "$@" -o "check.reports/$name.html" "./$scenario"
+}
+sed -n 's/^[[:space:]]*run[[:space:]][[:space:]]*\([^/[:space:]]*\.toml\)[[:space:]]*$/\1/p' "$@" | LC_ALL=C sort -u |
+    while IFS= read -r scenario; do
+        [ -f "./$scenario" ] || continue
+        made=0
+        page "$scenario" >.check.sh 2>&1 </dev/null || made=$?
+        if [ "$made" -gt 1 ]; then
+            cat -v .check.sh | sed 's/^/| /' >&2
+            say "no page of a scenario: see above"
+        fi
+        : >.check.sh
+    done
+exit "$status"

@@ -156,3 +156,9 @@ def current(table: Mapping[str, object], key: str, name: str) -> float:
 def milliampere_hours(charge: float) -> float:
     """Of a charge in mA s."""
     return charge / SECONDS_AN_HOUR
+
+
+def between(least: float, most: float, form: str) -> str:
+    """A value, or a span where the two ends do not look the same."""
+    one, two = format(least, form), format(most, form)
+    return one if one == two else f"{one}..{two}"

@@ -4,19 +4,21 @@ from array import array
 from collections.abc import Iterable, Iterator
 from typing import Any, NamedTuple
 
-from avrora_tools import programs
+from avrora_tools import lines, programs
 from avrora_tools.errors import BadInput
 from avrora_tools.events import CLASH, NOTHING, End, Enter, Event, Heard, Instr, Sent, Serial, Stop
 from avrora_tools.hearing import Hearing
 from avrora_tools.instructions import SLEEP
-from avrora_tools.scenarios import DEFAULT_TIME
+from avrora_tools.scenarios import DEFAULT_TIME, Scenario
 from avrora_tools.showing import printable
 from avrora_tools.traces import LAST_LIMIT, Trace
 
 MAX_WAYS = 250  # lines from sends to where they were heard
 
+LONGEST_INSTRUCTION = 6  # no instruction takes so many cycles
+
 # What is drawn of a node, each kind with how many numbers an event of it has, of which the first is its cycle.
-FIELDS = {"sent": 2, "heard": 4, "clash": 3, "quiet": 1, "serial": 2, "asleep": 2, "enter": 2, "stop": 2}
+FIELDS = {"sent": 2, "heard": 4, "clash": 3, "quiet": 1, "serial": 2, "lines": 3, "asleep": 2, "enter": 2, "stop": 2}
 
 # An event that is drawn: its cycle, and what its kind has more.
 Drawn = tuple[Any, ...]
@@ -48,11 +50,15 @@ class Lane:
         self.clash: list[tuple[int, int, list[int]]] = []  # cycle, OR of the bytes, senders
         self.quiet = Numbers(FIELDS["quiet"])  # cycle of a sample that heard nothing
         self.serial = Numbers(FIELDS["serial"])  # cycle, byte
+        self.lines: list[tuple[int, int, str]] = []  # cycle, cycles to its last byte, text of a line of USART0
         self.asleep = Numbers(FIELDS["asleep"])  # cycle, cycles
         self.enter = Numbers(FIELDS["enter"])  # cycle, vector
         self.stop: list[tuple[int, str]] = []  # cycle, address and cause
         self.state = ""
         self.fell_asleep: int | None = None
+        self.last_instruction: tuple[int, int] | None = None  # its cycle, its address
+        self.where: dict[int, str] = {}  # by the cycle of an event: which line of source was executed
+        self.rest: list[int] = []  # in how many cycles of each span of the drawing it slept
 
     def events(self, kind: str) -> Iterable[Drawn]:
         found: Iterable[Drawn] = getattr(self, kind)
@@ -75,28 +81,60 @@ class Way(NamedTuple):
 class Drawing:
     """The rows of a trace, by node."""
 
-    def __init__(self, trace: Trace, first: int, end: int | None, nodes: set[int] | None) -> None:
-        """What the trace has of the `nodes` (None: of all) from the cycle `first` on and before `end`."""
+    def __init__(
+        self,
+        scenario: Scenario | None,
+        name: str,
+        first: int = 0,
+        end: int | None = None,
+        nodes: set[int] | None = None,
+        all_programs: programs.Programs | None = None,
+    ) -> None:
+        """What a trace called `name` has of the `nodes` (None: of all) from the cycle `first` on and before `end`. With
+        programs it is told which line of source was executed, as far as rows tell."""
         self.first, self.end, self.nodes = first, end, nodes
-        self.scenario = trace.scenario
-        self.hearing = Hearing(trace.scenario, trace.name) if trace.scenario else None
+        self.scenario, self.programs = scenario, all_programs
+        self.hearing = Hearing(scenario, name) if scenario else None
         self.lanes: dict[int, Lane] = {}
-        self.last = 0
+        self.last = self.last_cycle = 0
         self.ways: list[Way] = []
         self.gap: int | None = None  # the least distance of two sends of one node
         self.last_sent: dict[int, int] = {}
+        self.lines = lines.Lines(self.note_line)
+        self.window = (0, 0)
+        self.byte_time = DEFAULT_TIME
+        self.spans: list[int] = []  # the ends of spans of which it is known how long nodes slept
+
+    @classmethod
+    def of(
+        cls,
+        trace: Trace,
+        first: int = 0,
+        end: int | None = None,
+        nodes: set[int] | None = None,
+        all_programs: programs.Programs | None = None,
+    ) -> "Drawing":
+        """What a trace has, which is read for it."""
+        drawing = cls(trace.scenario, trace.name, first, end, nodes, all_programs)
         for cycle, node, event in trace:
-            self.read(cycle, node, event)
+            drawing.read(cycle, node, event)
+        drawing.finish(trace)
+        return drawing
+
+    def finish(self, trace: Trace) -> None:
+        """What is known once all rows are read."""
+        self.lines.end_all()
         if trace.epochs:
             self.last = max(self.last, trace.bound - 1)
-        self.last_cycle = self.last + 1 if end is None else end
-        if self.lanes and self.last_cycle <= first:
-            raise BadInput(f"the trace ends in cycle {self.last}, before --from {first}")
-        self.window = trace.scenario.window_of(trace.traced, trace.limit) if trace.scenario else (0, 0)
+        self.last_cycle = self.last + 1 if self.end is None else self.end
+        if self.lanes and self.last_cycle <= self.first:
+            raise BadInput(f"the trace ends in cycle {self.last}, before --from {self.first}")
+        if self.scenario:
+            self.window = self.scenario.window_of(trace.traced, trace.limit)
         for lane in self.lanes.values():
             self.finish_sleep(lane)
         gap = min(DEFAULT_TIME, self.gap or DEFAULT_TIME)
-        self.byte_time = trace.scenario.byte_time if trace.scenario else gap
+        self.byte_time = self.scenario.byte_time if self.scenario else gap
 
     def closed(self, hearer: int) -> list[tuple[int, int, int]]:
         """The spans of what is drawn in which a link to a node is not open: the first cycle, the one behind the last,
@@ -127,6 +165,10 @@ class Drawing:
             return
         if isinstance(event, (Instr, Enter, Stop)):
             self.note_sleep(lane, cycle, event)
+            if isinstance(event, Instr):
+                if self.programs:
+                    self.programs.compare(node, event)
+                lane.last_instruction = cycle, event.address
         if cycle < self.first or self.end is not None and cycle >= self.end:
             return
         self.last = max(self.last, cycle)
@@ -136,10 +178,23 @@ class Drawing:
             lane.enter.append((cycle, event.vector))
         elif isinstance(event, Serial):
             lane.serial.append((cycle, event.byte))
+            self.lines.write(cycle, node, event.byte)
         elif isinstance(event, Sent):
             lane.sent.append((cycle, event.byte))
         elif isinstance(event, Stop):
             lane.stop.append((cycle, event.rest))
+            lane.last_instruction = cycle, event.address
+        if self.programs and not isinstance(event, Instr):
+            self.note_place(lane, cycle, node)
+
+    def note_place(self, lane: Lane, cycle: int, node: int) -> None:
+        """Which line of source a node executes at an event, where its rows tell."""
+        program = self.programs.of(node) if self.programs else None
+        if program and lane.last_instruction and cycle - lane.last_instruction[0] < LONGEST_INSTRUCTION:
+            lane.where[cycle] = program.place(lane.last_instruction[1])
+
+    def note_line(self, line: lines.Line) -> None:
+        self.lanes[line.node].lines.append((line.first, line.last - line.first, line.text))
 
     def note_send(self, cycle: int, node: int) -> None:
         if node in self.last_sent:
@@ -223,6 +278,7 @@ WORDS = {
     "asleep": "sleep",
     "heard": "heard",
     "serial": "USART0",
+    "lines": "lines of USART0",
     "sent": "sent",
     "clash": "clashes",
 }
@@ -231,8 +287,8 @@ WORDS = {
 THINNED = (
     ("quiet",),
     ("quiet", "enter", "asleep"),
-    ("quiet", "enter", "asleep", "heard", "serial", "sent"),
-    ("quiet", "enter", "asleep", "heard", "serial", "sent", "clash"),
+    ("quiet", "enter", "asleep", "heard", "serial", "lines", "sent"),
+    ("quiet", "enter", "asleep", "heard", "serial", "lines", "sent", "clash"),
 )
 
 FINEST, COARSEST = 1 << 14, 1 << 9  # in how many parts a thinning divides what is drawn

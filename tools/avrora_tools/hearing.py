@@ -1,6 +1,6 @@
 """Whether a trace is that of a scenario: what its samples of the air heard is what its sends give."""
 import collections
-from collections.abc import Sequence
+from collections.abc import Callable, Sequence
 
 from avrora_tools import states, traces
 from avrora_tools.errors import BadInput
@@ -47,8 +47,9 @@ class Hearing:
 class Samples:
     """Goes through the rows of a trace, and checks its samples and sends."""
 
-    def __init__(self, scenario: Scenario, state: State | None) -> None:
-        self.scenario = scenario
+    def __init__(self, scenario: Scenario, state: State | None, tell: Callable[[str], None] = print) -> None:
+        """What is not as it should be, and stops, are told as lines."""
+        self.scenario, self.tell = scenario, tell
         self.air = Air(scenario)
         self.life = self.air.reach + scenario.byte_time  # how long a byte can be heard after it was sent
         self.free: collections.Counter[int] = collections.Counter()  # the cycle from which on a node may send
@@ -73,7 +74,7 @@ class Samples:
             elif isinstance(event, Sent):
                 self.send(cycle, node, event)
             elif isinstance(event, Stop):
-                print(f"{cycle} node {node} stopped at {event.rest}")
+                self.tell(f"{cycle} node {node} stopped at {event.rest}")
         for node, count in enumerate(quiet):
             self.samples[node, NOTHING] += count
 
@@ -108,7 +109,7 @@ class Samples:
     def fault(self, cycle: int, node: int, event: Event, text: str) -> None:
         self.faults += 1
         if self.faults <= MAX_TOLD:
-            print(f"{cycle} node {node} {event.text}: {text}")
+            self.tell(f"{cycle} node {node} {event.text}: {text}")
 
 
 def shown(one: OnAir) -> str:

@@ -73,7 +73,12 @@ def run(words: Sequence[str]) -> int:
     module = command(name)
     parser = Parser(prog=Speaker.name)
     module.configure(parser)
+    command_words: list[str] = []
+    if getattr(module, "TAKES_COMMAND", False) and "--" in rest:  # which argparse would take for words of its own
+        place = rest.index("--")
+        rest, command_words = rest[:place], rest[place + 1 :]
     arguments: argparse.Namespace = parser.parse_args(rest)
+    arguments.command = command_words
     return int(module.run(arguments) or Status.GOOD)
 
 

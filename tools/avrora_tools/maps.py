@@ -6,6 +6,7 @@ from dataclasses import dataclass
 
 from avrora_tools import networks, showing, toml
 from avrora_tools.errors import BadInput
+from avrora_tools.reporting import palette
 
 Ends = tuple[int, int]  # the node that is heard, the one that hears
 Point = tuple[float, float]
@@ -157,6 +158,40 @@ def laid_out(count: int, links: Iterable[Ends]) -> list[Point]:
     return places
 
 
+def placed(count: int, links: Iterable[Ends]) -> list[Point]:
+    """Places for the nodes of a network: where links make a grid, a line, a ring or a star of mknet, the places of
+    that; else as `laid_out` has them, turned so that most links lie level or upright."""
+    pairs = sorted({(min(ends), max(ends)) for ends in links})
+    if shape := shape_of(count, pairs):
+        return shape_places(shape, count, 0)
+    return upright(laid_out(count, pairs), pairs)
+
+
+def shape_of(count: int, pairs: Sequence[Ends]) -> str | None:
+    """The shape of mknet that has these pairs of linked nodes, if any."""
+    widths = range(2, count // 2 + 1)
+    shapes = ["line", *(f"grid:{width}" for width in widths)]
+    shapes += [f"torus:{width}" for width in widths if count % width == 0]
+    shapes += ["ring", "star"] if count > 3 else []
+    return next((shape for shape in shapes if count > 1 and networks.pairs_of(shape, count) == list(pairs)), None)
+
+
+QUARTER = 4  # turns of a square that leave it as it is
+
+
+def upright(places: Sequence[Point], pairs: Iterable[Ends]) -> list[Point]:
+    """The places, turned so that most links lie level or upright."""
+    across = along = 0.0
+    for a, b in pairs:
+        dx, dy = places[b][0] - places[a][0], places[b][1] - places[a][1]
+        angle, long = math.atan2(dy, dx), math.hypot(dx, dy)
+        across += long * math.cos(QUARTER * angle)
+        along += long * math.sin(QUARTER * angle)
+    turn = -math.atan2(along, across) / QUARTER if across or along else 0.0
+    cos, sin = math.cos(turn), math.sin(turn)
+    return [(x * cos - y * sin, x * sin + y * cos) for x, y in places]
+
+
 def push(places: Sequence[Point], moves: list[list[float]], a: int, b: int, force: Callable[[float], float]) -> None:
     """Adds to the moves of two nodes what pushes them apart."""
     dx, dy = places[a][0] - places[b][0], places[a][1] - places[b][1]
@@ -176,9 +211,32 @@ def moved(place: Point, move: Sequence[float], most: float) -> Point:
 # ---- the picture
 
 SIZE, MARGIN, RADIUS = 720, 60, 14
-LEGEND = 46
+LEGEND = 64
 BEND = 0.08  # of a link, so that the two directions lie side by side
-UNUSED, ALONE = "#b8b8b8", "#d11"
+MOST_NUMBERED = 160  # links that have their numbers on them
+
+# How well a link does: the least part of what was sent that is clean, the class, and what the legend says.
+GRADES = (
+    (1.0, "link4", "100%"),
+    (0.9, "link3", "90% or more"),
+    (0.5, "link2", "50% or more"),
+    (1e-12, "link1", "less"),
+    (0.0, "link0", "nothing"),
+)
+UNUSED = "unused"
+WIDTHS = {"link4": 1.6, "link3": 1.8, "link2": 2.2, "link1": 2.6, "link0": 3.0, UNUSED: 1.0}
+
+RULES: list[palette.Rule] = [
+    (".paper", "fill", "paper"), (".map text", "fill", "ink"),
+    (".node circle", "fill", "paper"), (".node circle", "stroke", "ink"), (".alone circle", "stroke", "bad"),
+    (".number", "stroke", "paper"),
+    *((f".{name}", "stroke", name) for name in WIDTHS), *((f".tip-{name}", "fill", name) for name in WIDTHS),
+]  # fmt: skip
+MORE = (
+    "".join(f".{name}{{stroke-width:{width}px}}" for name, width in WIDTHS.items())
+    + ".node circle{stroke-width:1.5px}.alone circle{stroke-width:3px}.lone{stroke-dasharray:6 4}"
+    ".number{font-size:10px;stroke-width:3px;paint-order:stroke;text-anchor:middle}"
+)
 
 
 @dataclass(frozen=True)
@@ -196,38 +254,52 @@ class Quality:
         return self.clean / self.sent if self.sent else None
 
 
-def colour(share: float | None) -> str:
-    """From red by yellow to green; grey where nothing was sent."""
-    return UNUSED if share is None else f"hsl({round(120 * share)},75%,42%)"
+def grade(share: float | None) -> str:
+    """The class of a link by which part of what was sent is clean; of its own where nothing was sent."""
+    return UNUSED if share is None else next(name for least, name, _ in GRADES if share >= least)
 
 
-def drawn(places: Sequence[Point], links: Mapping[Ends, Quality]) -> str:
+def page_rules() -> str:
+    """The rules of a map within a page."""
+    return palette.rules(RULES) + MORE
+
+
+def drawn(places: Sequence[Point], links: Mapping[Ends, Quality], is_part_of_page: bool = False) -> str:
     """The map as SVG."""
     at = fitted(places)
-    used = sorted({colour(quality.share) for quality in links.values()})
-    markers = {one: f"tip{number}" for number, one in enumerate(used)}
+    low = min(y for _, y in at) - MARGIN
+    high = max(y for _, y in at) + MARGIN - low
+    height = high + LEGEND
+    size = "" if is_part_of_page else f'width="{SIZE}" height="{height:.0f}" '
     out = [
-        f'<svg xmlns="http://www.w3.org/2000/svg" viewBox="0 0 {SIZE} {SIZE + LEGEND}" width="{SIZE}" '
-        f'height="{SIZE + LEGEND}" '
-        'font-family="DejaVu Sans,sans-serif" font-size="11"><rect width="100%" height="100%" fill="#fff"/><defs>'
+        f'<svg xmlns="http://www.w3.org/2000/svg" class="map" viewBox="0 {low:.0f} {SIZE} {height:.0f}" '
+        f'{size}role="img" '
+        'aria-label="map of the network" font-family="DejaVu Sans,sans-serif" font-size="11">'
     ]
-    for one, name in markers.items():
-        out.append(
-            f'<marker id="{name}" viewBox="0 0 8 8" refX="8" refY="4" markerWidth="7" markerHeight="7" orient="auto">'
-            f'<path d="M0 0L8 4L0 8z" fill="{one}"/></marker>'
-        )
-    out.append("</defs>")
+    if not is_part_of_page:
+        out.append(palette.style(RULES, MORE))
+        out.append(f'<rect class="paper" y="{low:.0f}" width="100%" height="100%"/>')
+    out.append("<defs>" + "".join(map(tip, sorted({grade(quality.share) for quality in links.values()}))) + "</defs>")
     lone = set(one_way(links))
-    out += [link_shape(at, ends, quality, markers, ends in lone) for ends, quality in sorted(links.items())]
+    out += [link_shape(at, ends, quality, ends in lone) for ends, quality in sorted(links.items())]
+    if len(links) <= MOST_NUMBERED:
+        out += [link_number(at, ends, quality) for ends, quality in sorted(links.items())]
     alone = set(unreached(len(places), links))
     for node, (x, y) in enumerate(at):
         title = f"node {node}: nothing reaches it" if node in alone else f"node {node}"
         out.append(
-            f'<g><title>{title}</title><circle cx="{x:.1f}" cy="{y:.1f}" r="{RADIUS}" fill="#fff" '
-            f'stroke="{ALONE if node in alone else "#222"}" stroke-width="{3 if node in alone else 1.5}"/>'
+            f'<g class="node{" alone" * (node in alone)}"><title>{title}</title><circle cx="{x:.1f}" cy="{y:.1f}" '
+            f'r="{RADIUS}"/>'
             f'<text x="{x:.1f}" y="{y + 4:.1f}" text-anchor="middle">{node}</text></g>'
         )
-    return "\n".join(out + legend()) + "\n</svg>\n"
+    return "\n".join(out + legend(low + high)) + "\n</svg>\n"
+
+
+def tip(name: str) -> str:
+    return (
+        f'<marker id="tip-{name}" viewBox="0 0 8 8" refX="8" refY="4" markerWidth="8" markerHeight="8" orient="auto" '
+        f'markerUnits="userSpaceOnUse"><path d="M0 0L8 4L0 8z" class="tip-{name}"/></marker>'
+    )
 
 
 def fitted(places: Sequence[Point]) -> list[Point]:
@@ -239,22 +311,39 @@ def fitted(places: Sequence[Point]) -> list[Point]:
     return [(left + (x - min(xs)) * scale, top + (y - min(ys)) * scale) for x, y in places]
 
 
-def link_shape(at: Sequence[Point], ends: Ends, quality: Quality, markers: Mapping[str, str], is_lone: bool) -> str:
-    """A link as a bent arrow, dashed where it has none back."""
+def bend_of(at: Sequence[Point], ends: Ends) -> Point:
+    """The point towards which a link is bent."""
     (x, y), (end_x, end_y) = at[ends[0]], at[ends[1]]
     dx, dy = end_x - x, end_y - y
-    bend_x, bend_y = (x + end_x) / 2 - dy * BEND, (y + end_y) / 2 + dx * BEND
-    start, end = towards((x, y), (bend_x, bend_y)), towards((end_x, end_y), (bend_x, bend_y))
-    one = colour(quality.share)
-    dashes = ' stroke-dasharray="5 4"' if is_lone else ""
+    return (x + end_x) / 2 - dy * BEND, (y + end_y) / 2 + dx * BEND
+
+
+def link_shape(at: Sequence[Point], ends: Ends, quality: Quality, is_lone: bool) -> str:
+    """A link as a bent arrow, dashed where it has none back."""
+    bend = bend_of(at, ends)
+    start, end = towards(at[ends[0]], bend), towards(at[ends[1]], bend)
     share = "nothing sent" if quality.share is None else f"{100 * quality.share:.1f}% of {quality.sent:,} bytes clean"
     more = f", {quality.clashed:,} clashed, {quality.unheard:,} unheard" if quality.sent else ""
     more += f", {quality.closed:,} while it was closed" if quality.closed else ""
     title = showing.markup(f"{ends[0]} to {ends[1]}: {share}{more}{', one direction' if is_lone else ''}")
+    name = grade(quality.share)
     return (
-        f'<path d="M{start[0]:.1f} {start[1]:.1f}Q{bend_x:.1f} {bend_y:.1f} {end[0]:.1f} {end[1]:.1f}" fill="none" '
-        f'stroke="{one}" stroke-width="1.6"{dashes} marker-end="url(#{markers[one]})"><title>{title}</title></path>'
+        f'<path d="M{start[0]:.1f} {start[1]:.1f}Q{bend[0]:.1f} {bend[1]:.1f} {end[0]:.1f} {end[1]:.1f}" fill="none" '
+        f'class="{name}{" lone" * is_lone}" marker-end="url(#tip-{name})"><title>{title}</title></path>'
     )
+
+
+def link_number(at: Sequence[Point], ends: Ends, quality: Quality) -> str:
+    """Which part of what was sent is clean, in percent, beside the link's middle, nearer to the hearer."""
+    if quality.share is None:
+        return ""
+    (x, y), bend, (end_x, end_y) = at[ends[0]], bend_of(at, ends), at[ends[1]]
+    part = 0.58
+    on_x, on_y = (
+        (1 - part) ** 2 * one + 2 * part * (1 - part) * middle + part**2 * other
+        for one, middle, other in ((x, bend[0], end_x), (y, bend[1], end_y))
+    )
+    return f'<text class="number" x="{on_x:.1f}" y="{on_y + 3.5:.1f}">{math.floor(100 * quality.share)}</text>'
 
 
 def towards(place: Point, other: Point) -> Point:
@@ -264,12 +353,13 @@ def towards(place: Point, other: Point) -> Point:
     return place[0] + dx / long * (RADIUS + 1), place[1] + dy / long * (RADIUS + 1)
 
 
-def legend() -> list[str]:
-    y = SIZE + LEGEND - 18
-    out = []
-    for place, (share, words) in enumerate(((1.0, "100% clean"), (0.5, "50%"), (0.0, "0%"), (None, "nothing sent"))):
-        x = 20 + 120 * place
-        out.append(f'<line x1="{x}" x2="{x + 24}" y1="{y}" y2="{y}" stroke="{colour(share)}" stroke-width="3"/>')
-        out.append(f'<text x="{x + 30}" y="{y + 4}">{words}</text>')
-    out.append(f'<text x="{20 + 120 * 4}" y="{y + 4}">dashed: one direction; red circle: nothing reaches it</text>')
-    return out
+def legend(top: float) -> list[str]:
+    """What the colours, the numbers and the lines say."""
+    y = top + 18
+    out = [f'<text x="20" y="{y + 4:.0f}">heard clean of what was sent, in percent:</text>']
+    entries = [*((name, words) for _, name, words in GRADES), (UNUSED, "none sent")]
+    for place, (name, words) in enumerate(entries):
+        x = 20 + 114 * place
+        out.append(f'<line x1="{x}" x2="{x + 24}" y1="{y + 20:.0f}" y2="{y + 20:.0f}" class="{name}"/>')
+        out.append(f'<text x="{x + 30}" y="{y + 24:.0f}">{words}</text>')
+    return [*out, f'<text x="300" y="{y + 4:.0f}">dashed: one direction alone; thick circle: nothing reaches it</text>']

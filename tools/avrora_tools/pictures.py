@@ -1,21 +1,23 @@
 """A trace as a picture: SVG for papers."""
-import re
 from collections.abc import Iterator
 from fractions import Fraction
 
-from avrora_tools import cli, drawings, showing
+from avrora_tools import cli, drawings, lines, showing
 from avrora_tools.drawings import Drawing, Lane
+from avrora_tools.reporting import palette
+from avrora_tools.reporting.bars import round_step
 
 
-# The picture: its colours and line widths. The names of the classes are those of EVENTS.
-STYLE = """.sent{fill:#3b6fb6}.heard{stroke:#1a8f3c;stroke-width:1.3}.clash{stroke:#d11;stroke-width:1.8}
-.quiet{stroke:#bbb;stroke-width:.7}
-.serial{fill:#a06a00}.asleep{fill:#dcdcec}.enter{stroke:#7a3fa0;stroke-width:.8}.stopped{fill:#e4e4e4}.stop{fill:#000}
-.grid{stroke:#e6e6e6}.line{stroke:#f0f0f0}.way{stroke:#d11;stroke-width:.6;opacity:.45}
-.hop{stroke:#1a8f3c;stroke-width:.5;opacity:.4}.closed{fill:#e0704f}text{fill:#222}"""
-
-# The colours of the classes.
-COLOURS = dict(re.findall(r"\.(\w+){(?:fill|stroke):([^;}]+)", STYLE))
+# What is drawn by which colour, and the widths of lines. The names of the classes are those of EVENTS.
+RULES: list[palette.Rule] = [
+    ("text", "fill", "ink"), (".paper", "fill", "paper"), (".grid", "stroke", "rule"), (".line", "stroke", "panel"),
+    *((f".{name}", "fill", name) for name in ("sent", "serial", "asleep", "stopped", "stop", "closed", "window")),
+    *((f".{name}", "stroke", name) for name in ("heard", "clash", "quiet", "enter")),
+    *((f".p-{name}", "stroke", name) for name in ("sent", "heard", "clash", "quiet", "serial")),
+    (".way", "stroke", "clash"), (".hop", "stroke", "heard"), (".said", "fill", "serial"),
+]  # fmt: skip
+WIDTHS = """.heard{stroke-width:1.3}.clash{stroke-width:1.8}.quiet{stroke-width:.7}.enter{stroke-width:.8}
+.way{stroke-width:.7;opacity:.55;stroke-dasharray:4 2}.hop{stroke-width:.6;opacity:.45}.said{font-family:monospace}"""
 
 MAX_TITLED = 20_000  # events that each have a text of their own to hover
 LEAST_MARGIN, MOST_MARGIN = 92, 260  # left of the cycles, in pixels
@@ -24,6 +26,8 @@ TOP = 30
 BOTTOM, LEGEND_ROW = 36, 14
 MOST_TICKS = 10
 LETTER = 6.4  # at most, of the font of the picture
+MONOSPACE = 0.62  # of the size of a font whose letters all have one width
+MOST_CROWDED = 20  # pixels of a row that has room for text
 
 
 class Picture:
@@ -33,22 +37,23 @@ class Picture:
         self.drawing, self.hz, self.width, self.shows_quiet = drawing, hz, width, shows_quiet
         self.nodes = sorted(drawing.lanes)
         self.row = {node: number for number, node in enumerate(self.nodes)}
-        self.step = 12 if len(self.nodes) > 32 else 18 if len(self.nodes) > 12 else 26
+        self.step = 12 if len(self.nodes) > 32 else 18 if len(self.nodes) > 16 else 26 if len(self.nodes) > 6 else 38
         longest = max((len(drawing.name(node)) for node in self.nodes), default=0)
         self.margin = int(min(MOST_MARGIN, max(LEAST_MARGIN, LETTER * longest + 8)))
         self.legend = self.legend_rows()
         self.height = TOP + self.step * len(self.nodes) + BOTTOM + LEGEND_ROW * (len(self.legend) - 1)
         self.bottom = TOP + self.step * len(self.nodes)
         self.scale = (width - self.margin - RIGHT) / max(1, drawing.last_cycle - drawing.first)
-        self.count = sum(lane.count(*drawings.FIELDS) for lane in drawing.lanes.values())
+        kinds = [kind for kind in drawings.FIELDS if kind != "lines"]
+        self.count = sum(lane.count(*kinds) for lane in drawing.lanes.values())
         self.titled = self.count <= MAX_TITLED
         self.out: list[str] = []
 
     def text(self) -> str:
         self.out = [
             f'<svg xmlns="http://www.w3.org/2000/svg" viewBox="0 0 {self.width} {self.height}" width="{self.width}" '
-            f'height="{self.height}" font-family="DejaVu Sans,sans-serif" font-size="10"><style>{STYLE}</style>'
-            '<rect width="100%" height="100%" fill="#fff"/>'
+            f'height="{self.height}" font-family="DejaVu Sans,sans-serif" font-size="10">{palette.style(RULES, WIDTHS)}'
+            '<rect class="paper" width="100%" height="100%"/>'
         ]
         self.draw_grid()
         for node in self.nodes:
@@ -79,7 +84,7 @@ class Picture:
         if end > self.drawing.first and first < min(end, self.drawing.last_cycle):
             width = max(2, self.x(end) - self.x(first))
             self.out.append(
-                f'<rect x="{self.x(first)}" y="{TOP - 6}" width="{width:.2f}" height="3" fill="#f5a623">'
+                f'<rect x="{self.x(first)}" y="{TOP - 6}" width="{width:.2f}" height="3" class="window">'
                 f"<title>instructions are traced from {first:,} to {end:,}</title></rect>"
             )
 
@@ -140,11 +145,34 @@ class Picture:
         for cycle, byte, senders in lane.clash:
             whose = f" of nodes {', '.join(map(str, senders))}" if senders else ""
             self.tick("clash", cycle, y + high * 0.5, y + high, f"{cycle:,}: a clash{whose} at node {node}")
+        spoken = list(self.draw_lines(lane, y, high))
         for cycle, byte in lane.serial:
-            self.add(
-                f'<circle class="serial" cx="{self.x(cycle)}" cy="{y + high * .54:.1f}" r="{min(2.4, high * .18):.1f}"',
-                f"{cycle:,}: node {node} wrote {cli.shown_byte(byte)} to USART0",
-            )
+            is_told = any(first <= cycle <= last for first, last in spoken) or spoken and byte in (lines.CR, lines.LF)
+            if not is_told:
+                self.add(
+                    f'<circle class="serial" cx="{self.x(cycle)}" cy="{y + high * .54:.1f}" '
+                    f'r="{min(2.4, high * .18):.1f}"',
+                    f"{cycle:,}: node {node} wrote {cli.shown_byte(byte)} to USART0",
+                )
+
+    def draw_lines(self, lane: Lane, y: int, high: int) -> Iterator[tuple[int, int]]:
+        """Lines of USART0 as texts, where there is room behind them and their bytes lie close together; of each the
+        cycles of its first byte and of its last one."""
+        size = min(10, high * 0.3)
+        letter = size * MONOSPACE
+        for at, (cycle, cycles, text) in enumerate(lane.lines):
+            begin, long = self.x(cycle), letter * len(text)
+            behind = self.x(lane.lines[at + 1][0]) if at + 1 < len(lane.lines) else self.width - RIGHT
+            if text and high >= MOST_CROWDED and begin + long < behind and cycles * self.scale < long:
+                yield cycle, cycle + cycles
+                self.add_text(text, begin, y + high * 0.5 + size * 0.42, size, f"{cycle:,}: a line of USART0: {text}")
+
+    def add_text(self, text: str, x: float, y: float, size: float, title: str) -> None:
+        shown = showing.markup(text)
+        self.out.append(
+            f'<text class="said" x="{x}" y="{y:.1f}" font-size="{size:g}">{shown}<title>{showing.markup(title)}'
+            '</title></text>'
+        )
 
     def tick(self, name: str, cycle: int, top: float, bottom: float, title: str) -> None:
         x = self.x(cycle)
@@ -165,12 +193,11 @@ class Picture:
             places = sorted({round(2 * self.x(event[0])) for event in events})
             if not places:
                 continue
-            colour = COLOURS[kind]
             shift = width / 2 if kind == "sent" else 0
             top = y + 1 if kind == "sent" else y + high * top
             strokes = "".join(f"M{place / 2 + shift:g} {top:.1f}v{high * part:.1f}" for place in places)
             self.out.append(
-                f'<path stroke="{colour}" stroke-width="{width:.2f}" d="{strokes}">'
+                f'<path class="p-{kind}" stroke-width="{width:.2f}" d="{strokes}">'
                 f"<title>node {node}: {kind}, {lane.count(kind):,}</title></path>"
             )
 
@@ -259,15 +286,3 @@ def round_ticks(first: int, end: int, hz: int | None, most: int) -> Iterator[tup
     while (at := number * step) * scale < end:
         yield float(at * scale), f"{float(at):.{digits}f} ms" if hz else f"{int(at):,}"
         number += 1
-
-
-def round_step(least: Fraction, may_be_part: bool) -> tuple[Fraction, int]:
-    """The least of 1, 2, 5, 10, 20, 50, .. that is no less than `least`, or of parts of 1 such as 0.5 too; and how many
-    digits such a number has behind its point."""
-    power = -6 if may_be_part else 0
-    while True:
-        for factor in (1, 2, 5):
-            step = factor * Fraction(10) ** power
-            if step >= least:
-                return step, max(0, -power)
-        power += 1

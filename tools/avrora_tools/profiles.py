@@ -4,7 +4,7 @@ import collections
 import itertools
 import math
 import re
-from collections.abc import Iterable, Iterator
+from collections.abc import Callable, Iterable, Iterator, Mapping
 from dataclasses import dataclass, field
 from typing import NamedTuple
 
@@ -319,3 +319,76 @@ def text_lines(blocks: Iterable[bytes], name: str) -> Iterator[str]:
 def is_monitor(beginning: bytes) -> bool:
     """Whether a text begins as what a monitor writes."""
     return bool(re.match(rb"\d+ lead ", beginning))
+
+
+# ---- tables
+
+# Names what an instruction of a node belongs to.
+Namer = Callable[[int, int], str]
+
+
+class Taken(NamedTuple):
+    """What something took: its cycles, how many rows it has (None where it has none), its name."""
+
+    cycles: int
+    rows: int | None
+    name: str
+
+
+def by_name(spent: Mapping[int, Spent], name_of: Namer) -> list[Taken]:
+    """Cycles by name, most first, and then what belongs to no instruction; `name_of(node, word)` names what an
+    instruction belongs to."""
+    cycles: collections.Counter[str] = collections.Counter()
+    counts: collections.Counter[str] = collections.Counter()
+    for node, one in spent.items():
+        for word, share in one.at.items():
+            name = name_of(node, word)
+            cycles[name] += share.cycles
+            counts[name] += share.count
+    entries = [share for one in spent.values() for share in one.vector.values()]
+    found = [Taken(taken, counts[name], name) for name, taken in sorted(cycles.items(), key=lambda it: (-it[1], it[0]))]
+    found += [
+        Taken(sum(share.cycles for share in entries), sum(share.count for share in entries), "(entering interrupts)"),
+        Taken(sum(one.asleep for one in spent.values()), None, "(asleep)"),
+        Taken(sum(one.stopped for one in spent.values()), None, "(stopped)"),
+        Taken(sum(one.lead for one in spent.values()), None, "(before the first row)"),
+    ]
+    return [one for one in found if one.cycles]
+
+
+class Ran(NamedTuple):
+    """How many instructions of a function ran, of how many."""
+
+    function: programs.Function
+    ran: int
+    of: int
+
+
+def covered(spent: Mapping[int, Spent], all_programs: programs.Programs, program: programs.Program) -> list[Ran]:
+    """Which part of each function of a program its nodes executed."""
+    hit = {
+        word
+        for node, one in spent.items()
+        if all_programs.of(node) is program
+        for word, share in one.at.items()
+        if share.count
+    }
+    words = [(function, list(program.instructions(function))) for function in program.functions]
+    return [Ran(function, len(hit.intersection(every)), len(every)) for function, every in words]
+
+
+class Names:
+    """What instructions belong to."""
+
+    def __init__(self, all_programs: programs.Programs) -> None:
+        self.programs = all_programs
+
+    def function(self, node: int, word: int) -> str:
+        program = self.programs.of(node)
+        function = program.function_at(word) if program else None
+        return function.name if function else f"{word:04X}"
+
+    def line(self, node: int, word: int) -> str:
+        program = self.programs.of(node)
+        line = program.line_at(word) if program else None
+        return line or f"{self.function(node, word)} (no line)"

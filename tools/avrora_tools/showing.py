@@ -58,6 +58,11 @@ def markup(text: str) -> str:
     return html.escape(printable(text), quote=True)
 
 
+def encoded(text: str) -> bytes:
+    """A text as a file in UTF-8 has it."""
+    return text.encode("utf-8", "surrogateescape")
+
+
 def script_data(value: object) -> str:
     """A value in JSON that a script element of HTML may have in it: no text of it ends the element, or begins a
     comment."""

@@ -6,6 +6,8 @@ import xml.etree.ElementTree
 
 import pytest
 
+from firmware import needs_program as firmware_program
+from pages_read import Page, check_policy
 from support import DATA, LONG, TOP, needs_module, needs_program
 
 SCRIPT = f"{TOP}/examples/ci/check.sh"
@@ -108,6 +110,7 @@ def test_links_and_pipes_deeper(place):
     assert sorted(os.listdir(place / "out")) == [
         ".check.sh",
         "SHA256SUMS",
+        "check.reports",
         "good.c",
         "good.elf",
         "good.expect",
@@ -234,3 +237,28 @@ def test_a_release_that_was_changed(place):
     (home / "bin" / "avrora").write_text("b")
     status, _, err = check(place, AVRORA_HOME=str(home))
     assert status == 3 and f"the programs in {home} are not those of its SHA256SUMS" in err
+
+
+@firmware_program
+@needs_module("junit_xml", "python3-junit.xml")
+@needs_module("elftools", "python3-pyelftools")
+def test_pages_and_coverage_are_left_for_a_person(place):
+    """Of the cases, and of each scenario that a case runs; one that cannot be made is told, and what lay there is gone."""
+    net = 'cycles = 2_000\nnode = [{ image = "good.hex" }]\n'
+    for name in ("net", "bad", "idle"):
+        (place / "mine" / f"{name}.toml").write_text(net)
+    (place / "mine" / "bad.toml").write_text("cycles = 5\n")
+    (place / "mine" / "net.expect").write_text("run net.toml\ncount == 0: * 0 sent *\n")
+    (place / "mine" / "bad.expect").write_text("run   bad.toml\n* 0 sent *\n")
+    (place / "mine" / "far.expect").write_text("run ../mine/net.toml\ncount == 0: * 0 sent *\n")
+    (place / "mine" / "check.reports").mkdir()
+    (place / "mine" / "check.reports" / "idle.html").write_text("<script>mine</script>")
+    status, _, err = check(place)
+    assert status == 2 and "no page of a scenario" in err and "NoNodes" in err
+    assert sorted(os.listdir(place / "out" / "check.reports")) == ["cases.html", "net.html", "net.info"]
+    cases, page = (Page((place / "out" / "check.reports" / name).read_text()) for name in ("cases.html", "net.html"))
+    check_policy(cases)
+    check_policy(page)
+    assert len(cases.tables["table-cases"]) == 5 and "main" in page.column("covered-0", "function")
+    info = (place / "out" / "check.reports" / "net.info").read_text()
+    assert f"SF:{place}/out/good.c" in info and "FNDA:1,main" in info

@@ -26,6 +26,8 @@ USES = {
     "links": (["@relay.toml", "@relay.trace"], 0),
     "mknet": (["line", "relay.hex*5"], 0),
     "profile": (["-s", "@relay.toml", "@relay.trace"], 0),
+    "report": (["--avrora", "@avrora", "--no-sleep", "--trace", "@relay.trace", "@relay.toml"], 0),
+    "rerun": (["--runs", "1", "/dev/null", "--", "true"], None),  # it tells what it does on the standard error
     "sweep": (
         ["--start", "0=5..6", "--until", "9000", "--compare", "bytes", "@relay.toml"],
         None,
@@ -82,10 +84,16 @@ def fill(folder):
         ("energy.toml", 'cycles = 100\nwindow = [0, 100]\nnode = [{ image = "a.hex" }]\n'),
         ("energy.profile", "0 lead 0\n0 at 0051 1 1\n0 asleep 99\n0 stopped 0\n0 charge 107\n"),
         ("net.state", STATE),
-        ("avrora", f"#!{sys.executable} -IS\nprint(open({str(folder / 'relay.trace')!r}).read(), end='')\n"),
+        ("avrora", f"#!{sys.executable} -IS\nimport sys\n{simulated(folder)}"),
     ):
         (folder / name).write_text(text)
     (folder / "avrora").chmod(0o755)
+
+
+def simulated(folder):
+    """A simulator of relay.toml: its trace, and of `monitor` a report."""
+    monitor = "".join(f"{node} lead 0\n{node} at 0000 1 1\n{node} asleep 89999\n{node} stopped 0\n{node} charge 90007\n" for node in range(5))
+    return f"print({monitor!r} if sys.argv[1] == 'monitor' else open({str(folder / 'relay.trace')!r}).read(), end='')\n"
 
 
 def words_of(tool, place, changes=None):

@@ -145,8 +145,8 @@ def test_the_table_and_the_picture(inputs, tmp_path):
     assert [float(part) for part in duty.rstrip("%").split("..")] == pytest.approx([15.125, 25.125], abs=0.006)
     text = picture.read_text()
     assert text.startswith("<svg") and text.count("<title>node 0, ") == 6 and "18.920..20.120 mA" in text
-    widths = dict(re.findall(r'width="([\d.]+)" height="16" fill="(#\w+)"', text)[i][::-1] for i in range(6))
-    assert float(widths["#c0392b"]) / float(widths["#3b6fb6"]) == pytest.approx(2.4 / 10.24, rel=0.01)
+    widths = dict(re.findall(r'width="([\d.]+)" height="16" class="fill-(\w+)"', text)[i][::-1] for i in range(6))
+    assert float(widths["awake"]) / float(widths["sending"]) == pytest.approx(2.4 / 10.24, rel=0.01)
 
 
 def test_the_report_of_another_scenario_is_refused(inputs, tmp_path):

@@ -10,6 +10,7 @@ import re
 import shutil
 import struct
 import subprocess
+import sys
 
 import pytest
 
@@ -528,3 +529,51 @@ def test_every_kind_of_row_has_its_cells():
     for event in events:
         assert set(tables.cells(event)) <= set(tables.COLUMNS) and tables.cells(event)
     assert tables.cells(events[5]) == {"address": 0x10, "cause": "adc"}
+
+
+# In place of pyarrow, which Debian does not have: what it is given, as JSON.
+STAND_IN = {
+    "__init__.py": """
+import json
+from . import parquet
+def schema(fields): return dict(fields)
+def string(): return "string"
+def int64(): return "int64"
+class Table:
+    @classmethod
+    def from_pylist(cls, rows, schema):
+        assert all(set(row) <= set(schema) for row in rows)
+        return [[row.get(name) for name in schema] for row in rows]
+""",
+    "parquet.py": """
+import json
+class ParquetWriter:
+    def __init__(self, file, schema): self.file, self.schema = file, schema
+    def __enter__(self): return self
+    def __exit__(self, *about): self.file.write(b"end")
+    def write_table(self, table): self.file.write(json.dumps([list(self.schema.items()), table]).encode() + b"\\n")
+""",
+}
+
+
+def test_parquet_is_given_each_row_in_groups(tmp_path, monkeypatch):
+    (tmp_path / "pyarrow").mkdir()
+    for name, text in STAND_IN.items():
+        (tmp_path / "pyarrow" / name).write_text(text)
+    monkeypatch.syspath_prepend(str(tmp_path))
+    monkeypatch.setattr("avrora_tools.exports.tables.ROWS_A_GROUP", 100)
+    *groups, end = exported("parquet", f"{DATA}/relay.trace").split("\n")
+    tables = [json.loads(group) for group in groups]
+    assert end == "end" and [len(table) for _, table in tables] == [100, 100, 60]
+    kinds = dict(tables[0][0])
+    rows = [dict(zip(kinds, row)) for _, table in tables for row in table]
+    text = exported("csv", f"{DATA}/relay.trace")
+    for row, cells in zip(rows, csv.DictReader(io.StringIO(text)), strict=True):
+        assert {name: "" if value is None else str(value) for name, value in row.items()} == cells
+        assert all(value is None or isinstance(value, int if kinds[name] == "int64" else str) for name, value in row.items())
+
+
+def test_parquet_without_its_library_is_refused_by_name(monkeypatch):
+    monkeypatch.setitem(sys.modules, "pyarrow", None)
+    status, out, err = run_tool("export", "parquet", f"{DATA}/relay.trace")
+    assert (status, out) == (3, "") and "has no pyarrow" in err

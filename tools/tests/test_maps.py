@@ -6,20 +6,23 @@ import xml.etree.ElementTree
 import pytest
 
 from avrora_tools.errors import BadInput
+from avrora_tools.networks import pairs_of
 from avrora_tools.maps import (
     Quality,
-    colour,
     deaf_leaves,
     drawn,
     fitted,
+    grade,
     laid_out,
     one_way,
     oddities,
     parts,
+    placed,
     places_of,
     places_text,
     shape_places,
     unreached,
+    upright,
 )
 from support import run_tool
 
@@ -56,8 +59,6 @@ def test_a_star():
 
 @pytest.mark.parametrize("shape, count", [("line", 4), ("ring", 6), ("grid:3", 9), ("full", 5), ("star", 5)])
 def test_a_layout_keeps_nodes_apart_and_linked_ones_near(shape, count):
-    from avrora_tools.networks import pairs_of
-
     pairs = pairs_of(shape, count)
     places = laid_out(count, pairs)
     assert places == laid_out(count, pairs)
@@ -102,13 +103,30 @@ def test_what_says_no_places_is_refused(text):
         places_of(text, "p", 2)
 
 
-def test_colours_go_from_red_to_green():
-    assert [colour(share) for share in (0.0, 0.5, 1.0, None)] == [
-        "hsl(0,75%,42%)",
-        "hsl(60,75%,42%)",
-        "hsl(120,75%,42%)",
-        "#b8b8b8",
-    ]
+def test_grades_go_from_nothing_to_all():
+    shares = (0.0, 1e-6, 0.4999, 0.5, 0.8999, 0.9, 0.9999, 1.0, None)
+    assert [grade(share) for share in shares] == "link0 link1 link1 link2 link2 link3 link3 link4 unused".split()
+
+
+@pytest.mark.parametrize("shape, count", [("grid:4", 16), ("grid:3", 8), ("torus:3", 9), ("line", 5), ("ring", 7), ("star", 6)])
+def test_a_shape_of_mknet_lies_as_it_is_called(shape, count):
+    pairs = pairs_of(shape, count)
+    assert placed(count, pairs) == placed(count, [pair[::-1] for pair in pairs]) == shape_places(shape, count, 0)
+
+
+def test_another_network_is_turned_upright():
+    pairs = [pair for pair in pairs_of("grid:4", 16) if pair != (5, 6)]
+
+    def off(places):
+        """How far links are turned away from level and upright, in the mean."""
+        angles = [math.atan2(places[b][1] - places[a][1], places[b][0] - places[a][0]) for a, b in pairs]
+        return sum(abs(math.remainder(angle, math.pi / 2)) for angle in angles) / len(pairs)
+
+    assert off(placed(16, pairs)) < min(0.16, off(laid_out(16, pairs)) / 2)
+    tilted = [(x * math.cos(0.4) - y * math.sin(0.4), x * math.sin(0.4) + y * math.cos(0.4)) for x, y in shape_places("grid:3", 9, 0)]
+    for a, b in pairs_of("grid:3", 9):
+        (x, y), (end_x, end_y) = (upright(tilted, pairs_of("grid:3", 9))[node] for node in (a, b))
+        assert min(abs(end_x - x), abs(end_y - y)) < 1e-9
 
 
 def test_the_picture():
@@ -122,7 +140,13 @@ def test_the_picture():
     assert "1 to 0: nothing sent" in titles
     assert "1 to 2: 100.0% of 4 bytes clean, 0 clashed, 0 unheard, one direction" in titles
     assert {"node 0", "node 1", "node 2"} <= titles
-    assert text.count("stroke-dasharray") == 1
+    assert text.count(' lone"') == 1  # is dashed
+    numbers = [shape.text for shape in root.iter("{http://www.w3.org/2000/svg}text") if shape.get("class") == "number"]
+    assert numbers == ["50", "100"]
+    classes = [shape.get("class") for shape in root.iter("{http://www.w3.org/2000/svg}path") if shape.get("marker-end")]
+    assert classes == ["link2", "unused", "link4 lone"]
+    said = {shape.text for shape in root.iter("{http://www.w3.org/2000/svg}text")}
+    assert {"100%", "90% or more", "50% or more", "less", "nothing", "none sent"} <= said
     assert "node 1: nothing reaches it" in drawn([(0, 0), (1, 1)], {(1, 0): Quality(0, 0, 0, 0)})
 
 

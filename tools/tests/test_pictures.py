@@ -12,10 +12,10 @@ import unittest.mock
 import xml.etree.ElementTree as tree
 
 from avrora_tools import pictures
-from avrora_tools.commands import timeline
+from avrora_tools.reporting import pages
 from support import DATA, LONG, data, needs_program, run_tool, scratch
 
-BROWSER = 60  # seconds for chromium, which does not end on each machine
+BROWSER = 240  # seconds for chromium, which does not end on each machine
 
 SVG = "{http://www.w3.org/2000/svg}"
 
@@ -27,7 +27,7 @@ def page_of(name, *words):
 
 
 def data_of(page):
-    return json.loads(re.search(r"(?m)^const data = (.*);$", page)[1])
+    return json.loads(re.search(r'(?m)^<script type="application/json" id="timeline-data">(.*)</script>$', page)[1])
 
 
 def cycles(flat, fields):
@@ -102,7 +102,7 @@ class Page(unittest.TestCase):
     def test_names_do_not_end_the_script(self):
         with scratch("net.toml", 'cycles = 9\n[[node]]\nimage = "</script>.hex"\n') as scenario:
             page = run_tool("timeline", "-s", scenario, stdin="5 0 sent 41\n9 0 end 1 running\n")[1]
-        self.assertEqual(page.count("</script>"), 1)
+        self.assertEqual(page.count("</script>"), 2)  # that of the data, and that of the script
 
     def test_large(self):
         """64 nodes and 100,000 events make less than 3 MB."""
@@ -125,7 +125,7 @@ class Page(unittest.TestCase):
         said = draw.choices(["0 00 0", "1 41 11", "2 41 0"], [45, 45, 10], k=len(cycles_))
         rows = [f"{cycle} 0 heard {what}\n" for cycle, what in zip(cycles_, said)]
         trace = "".join(rows) + "1000000 0 end 1 running\n"
-        with unittest.mock.patch.object(timeline, "LARGEST_PAGE", 1_500_000):
+        with unittest.mock.patch.object(pages, "LARGEST_PAGE", 1_500_000):
             status, out, err = run_tool("timeline", stdin=trace)
         self.assertEqual(status, 0)
         self.assertLess(len(out), 1_500_000)
@@ -146,10 +146,11 @@ class Page(unittest.TestCase):
         """Where they alone are more than a page may have; what a pixel can show is there, and stops are."""
         rows = [f"{cycle} {node} heard 2 FF 0\n" for cycle in range(0, 4_000_000, 100) for node in range(2)]
         trace = "".join(rows) + "3999999 0 stop 0000 break\n4000000 0 end 1 stopped\n4000000 1 end 1 running\n"
-        with unittest.mock.patch.object(timeline, "LARGEST_PAGE", 100_000):
+        most = len(run_tool("timeline", stdin="5 0 sent 41\n9 0 end 1 running\n")[1]) + 84_000
+        with unittest.mock.patch.object(pages, "LARGEST_PAGE", most):
             status, out, err = run_tool("timeline", stdin=trace)
         self.assertEqual(status, 0)
-        self.assertLess(len(out), 100_000)
+        self.assertLess(len(out), most)
         drawn = data_of(out)
         self.assertRegex(drawn["thinned"], r"^thinned to one in 1,953 cycles: .*, clashes$")
         self.assertIn(drawn["thinned"], err)
@@ -177,21 +178,27 @@ class Page(unittest.TestCase):
         status, _, err = run_tool("timeline", "-n", "9", f"{DATA}/relay.trace")
         self.assertEqual((status, err), (2, "avrora-tools timeline: the trace has no row of these nodes\n"))
 
-    PROBE = """<script>
-dispatchEvent(new KeyboardEvent("keydown", { key: "n" })); paint();
-const frame = sky.getBoundingClientRect(), at = { clientX: frame.left + x(15506), clientY: frame.top + y(6) + 5 };
-sky.dispatchEvent(new MouseEvent("mousemove", { ...at, bubbles: true }));
-const { data: points } = pen.getImageData(0, 0, sky.width, sky.height);
-const ink = points.filter((value, i) => i % 4 === 0 && value < 128).length;
-const said = tip.textContent, ways = shown.length;
-byNumber.get(2).node.sent = [[10, 1]];  // as where the send that clashed is thinned
-sky.dispatchEvent(new MouseEvent("mousemove", { ...at, bubbles: true }));
-document.body.innerHTML = `<pre>${said}|${ways}|${Math.round(from)}|${ink > 1000}|${tip.textContent}|</pre>`;
-</script>"""
+    # Behind the page, with a name in its policy: what is chosen, with keys, with markers; and what is painted.
+    PROBE = """
+timeline.paint();
+const said = document.getElementById("detail").textContent, ways = timeline.ways.length, began = Math.round(timeline.from);
+const { data: points } = document.getElementById("sky").getContext("2d").getImageData(0, 0, 1200, 500);
+const ink = points.filter((value, i) => i % 4 === 0 && value < 128).length > 1000;
+const press = key => document.body.dispatchEvent(new KeyboardEvent("keydown", { key, bubbles: true }));
+for (const key of ["a", "n", "b"]) press(key);
+timeline.paint();
+const marks = document.getElementById("marks").textContent, next = document.getElementById("detail").textContent;
+timeline.data.nodes[2].sent = [[10, 1]];  // as where the send that clashed is thinned
+timeline.choose(6, 15506);
+document.body.innerHTML = `<pre>${[said, ways, began, ink, marks, next, document.getElementById("detail").textContent].join("|")}|</pre>`;
+"""
 
     @needs_program("chromium", "chromium")
     def test_in_a_browser(self):
-        with scratch("page.html", page_of("flood") + self.PROBE) as page, tempfile.TemporaryDirectory() as profile:
+        page = page_of("flood")
+        own = pages.source_of(self.PROBE)
+        probed = page.replace("script-src ", f"script-src {own} ", 1)
+        with scratch("page.html", f"{probed}<script>{self.PROBE}</script>") as path, tempfile.TemporaryDirectory() as profile:
             words = [
                 "chromium",
                 "--headless=new",
@@ -199,16 +206,21 @@ document.body.innerHTML = `<pre>${said}|${ways}|${Math.round(from)}|${ink > 1000
                 "--disable-gpu",
                 "--disable-dev-shm-usage",
                 f"--user-data-dir={profile}",
-                "--window-size=1300,600",
+                "--window-size=1300,800",
                 "--dump-dom",
-                f"file://{page}",
+                f"file://{path}#15506@6",
             ]
             status, dump = self.ended(words, {**os.environ, "HOME": profile})
         if status:
             said = f"ended with status {status}" if status > 0 else f"did not end in {BROWSER} s"
             self.skipTest(f"chromium {said}")
-        self.assertIn("15,506  CLASH of node 2's 01 of 15,051, node 5's 01 of 15,046|2|5266|true|", dump)
-        self.assertIn("15,506  CLASH of node 2, node 5's 01 of 15,046|</pre>", dump)
+        said, ways, began, ink, marks, after, lost, _ = dump[dump.index("<pre>") + 5 :].split("|")
+        self.assertIn("node 6 flood: CLASH of node 2's 01 of 15,051, node 5's 01 of 15,046 in cycle 15,506 = 2.1031 ms", said)
+        self.assertIn("avrora-tools window", said)
+        self.assertEqual((ways, began, ink), ("2", "5266", "true"))
+        self.assertIn("node 9 flood: CLASH of node 10's 01 of 17,099, node 13's 01 of 17,094", after)
+        self.assertIn("A 15,506 = 2.1031 ms; B 17,554 = 2.3809 ms; B \u2212 A: 2,048 = 277.778 \u00b5s", marks)
+        self.assertIn("CLASH of node 2, node 5's 01 of 15,046", lost)
 
     def ended(self, words, env):
         """The status and the output of a command; below 0 where it did not end in time."""

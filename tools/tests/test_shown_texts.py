@@ -81,16 +81,22 @@ def test_keys_and_values_of_a_scenario(text):
 class Page(html.parser.HTMLParser):
     def __init__(self, text):
         super().__init__()
-        self.tags, self.script, self.title = [], "", ""
+        self.tags, self.scripts, self.attributes, self.id = [], collections.defaultdict(str), [], None
         self.feed(text)
         self.close()
 
+    @property
+    def script(self):
+        return "".join(self.scripts.values())
+
     def handle_starttag(self, tag, attributes):
         self.tags.append(tag)
+        self.attributes += attributes
+        self.id = dict(attributes).get("id", "")
 
     def handle_data(self, data):
         if self.tags[-1:] == ["script"]:
-            self.script += data
+            self.scripts[self.id] += data
 
 
 @pytest.mark.parametrize("name", ["<!--<script>", "</script><script>", "]]>", HOSTILE.replace("/", "")])
@@ -105,7 +111,7 @@ class TestPictures:
             status, out, _ = run_tool("timeline", "-s", path, trace)
         page, plain = Page(out), Page(run_tool("timeline", stdin=rows)[1])
         assert status == 0 and page.tags == plain.tags and "<!--" not in page.script
-        data = json.loads(re.search(r"(?m)^const data = (.*);$", page.script)[1])
+        data = json.loads(page.scripts["timeline-data"])
         assert data["nodes"][0]["name"] == "0 " + showing.printable(os.path.basename(f"{name}.hex")[:-4])
 
     def test_a_picture(self, name):

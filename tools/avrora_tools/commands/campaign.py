@@ -3,15 +3,18 @@ import argparse
 import contextlib
 import os
 import re
+import shlex
 import signal
 import sys
-from collections.abc import Callable, Iterator
+from collections.abc import Callable, Iterator, Sequence
 from types import FrameType
 
+import avrora_tools
 from avrora_tools import campaigns, cli, coverage, files, reports, results, runs, shipping, sittings, stored
 from avrora_tools import terminal, watching
 from avrora_tools.campaigns import Campaign, Shard
 from avrora_tools.errors import BadInput, BadWords, Status
+from avrora_tools.reporting import campaign_sections
 
 SUMMARY = "many runs, and what came of them"
 
@@ -72,6 +75,8 @@ def run_all(campaign: Campaign, words: sittings.Words, arguments: argparse.Names
         store.drop_unbelieved()
         report = reports.Report([store.database])
         reports.write_summaries(report, store.folder)
+        if arguments.html:
+            write_page(report, arguments)
         report.print_table(sys.stdout, store.folder.path_of("summary.txt"))
         status = status_of(report)
         sitting.progress.note(f"the sitting ends with status {int(status)}: {report.closing_line()}")
@@ -107,6 +112,8 @@ def report_on(arguments: argparse.Namespace) -> int:
         databases = [reading.database for reading in readings]
         report = reports.Report(databases, arguments.by, arguments.reverse, arguments.top)
         write_report(report, arguments)
+        if arguments.html:
+            write_page(report, arguments, covered.told)
         for line in covered.told:
             terminal.say(line)
         status = status_of(report)
@@ -130,6 +137,14 @@ def write_report(report: reports.Report, arguments: argparse.Namespace) -> None:
         report.write_parquet(arguments.parquet)
     if not (arguments.json or arguments.junit or arguments.parquet):
         report.print_table(sys.stdout, None)
+
+
+def write_page(report: reports.Report, arguments: argparse.Namespace, told: Sequence[str] = ()) -> None:
+    """The page of all results."""
+    command = shlex.join(["avrora-tools", "campaign", "--report", *map(files.shown, arguments.campaign)])
+    found = campaign_sections.statistics(reports.Report(report.databases))
+    text = campaign_sections.page(found, command, told, f"by avrora-tools {avrora_tools.__version__}")
+    files.write_whole(arguments.html, text)
 
 
 def files_of(arguments: argparse.Namespace) -> tuple[Campaign | None, list[str]]:
@@ -218,6 +233,9 @@ def check_words(arguments: argparse.Namespace) -> None:
     for word in ("by", "top", "reverse", "json", "junit", "parquet"):
         if getattr(arguments, word) and not arguments.report:
             raise BadWords(f"--{word} goes with --report")
+    for word in ("dry_run", "merge", "list", "scenario"):
+        if getattr(arguments, word) and arguments.html:
+            raise BadWords(f"--html is of results: it goes with no --{word.replace('_', '-')}")
     for word in ("dry_run", "report", "merge", "list", "scenario"):
         if getattr(arguments, word) and (arguments.stop_after or arguments.counts or arguments.drop or arguments.anew):
             word = word.replace("_", "-")
@@ -291,4 +309,5 @@ def configure(parser: argparse.ArgumentParser) -> None:
     parser.add_argument("--top", type=cli.positive, metavar="N", help="with --report: the first N alone")
     for word, what in (("json", "lines of JSON"), ("junit", "a JUnit report"), ("parquet", "a table by pyarrow")):
         parser.add_argument(f"--{word}", metavar="FILE", help=f"with --report: {what} instead of the table")
+    parser.add_argument("--html", metavar="FILE", help="a page too: what runs came to, each parameter against each outcome")
     parser.add_argument("campaign", nargs="+", metavar="FILE", help="a campaign; with --report also files of results")

@@ -2,7 +2,7 @@
 import argparse
 import os
 
-from avrora_tools import cli, files, profiles, scenarios, showing, toml, traces
+from avrora_tools import cli, files, profiles, scenarios, toml, traces
 from avrora_tools.budgets import (
     HOURS_A_DAY,
     Account,
@@ -13,10 +13,12 @@ from avrora_tools.budgets import (
     milliampere_hours,
     sent,
 )
-from avrora_tools.budgets import table_of, whole
+from avrora_tools.budgets import between, table_of, whole
 from avrora_tools.errors import BadInput, Status
 from avrora_tools.listening import Radio, Selection
 from avrora_tools.profiles import Spent
+from avrora_tools.reporting import bars
+from avrora_tools.reporting.currents import currents_of
 from avrora_tools.sweeping.simulation import Simulator
 from avrora_tools.terminal import warn
 
@@ -42,16 +44,6 @@ what depends on them is told as a span. No report tells when a radio was selecte
 and follows the writes to PB0; where it cannot tell, what depends on it is a span too. --always-listening takes each
 radio for selected. A byte that is sent counts for a whole byte time. From its stop on a node draws nothing. Means and
 days are those of the window of the report."""
-
-PARTS = {
-    "awake": "#c0392b",
-    "asleep": "#a9b8d0",
-    "sending": "#3b6fb6",
-    "listening": "#7bbf8a",
-    "off": "#c8c8a0",
-    "unknown": "#e0e0e0",
-}
-
 
 def run(arguments: argparse.Namespace) -> int:
     table = table_of(files.read_text(arguments.currents), files.shown(arguments.currents))
@@ -119,46 +111,9 @@ def percent(part: tuple[float, float]) -> str:
     return between(100 * part[0], 100 * part[1], ".2f") + "%"
 
 
-def between(least: float, most: float, form: str) -> str:
-    """A value, or a span where the two ends do not look the same."""
-    one, two = format(least, form), format(most, form)
-    return one if one == two else f"{one}..{two}"
-
-
-BAR, GAP, LEFT, RIGHT, TOP, BOTTOM = 16, 6, 60, 90, 34, 24
-
-
-def picture(accounts: list[Account], seconds: float, width: int = 900) -> str:
+def picture(accounts: list[Account], seconds: float) -> str:
     """A bar for each node, of what its mean current is made of, as SVG."""
-    greatest = max(one.most for one in accounts) or 1.0
-    scale = (width - LEFT - RIGHT) / greatest
-    height = TOP + len(accounts) * (BAR + GAP) + BOTTOM
-    out = [
-        f'<svg xmlns="http://www.w3.org/2000/svg" viewBox="0 0 {width} {height}" width="{width}" height="{height}" '
-        'font-family="DejaVu Sans,sans-serif" font-size="11"><rect width="100%" height="100%" fill="#fff"/>'
-    ]
-    for place, (part, colour) in enumerate(PARTS.items()):
-        x = LEFT + 120 * place
-        out.append(
-            f'<rect x="{x}" y="10" width="12" height="12" fill="{colour}"/><text x="{x + 17}" '
-            f'y="20">{showing.markup(part)}</text>'
-        )
-    for k, one in enumerate(accounts):
-        along, y = float(LEFT), TOP + k * (BAR + GAP)
-        out.append(f'<text x="{LEFT - 8}" y="{y + BAR - 4}" text-anchor="end">node {k}</text>')
-        for part, colour in PARTS.items():
-            long = getattr(one, part) * scale
-            title = f"node {k}, {part}: {getattr(one, part) / seconds:.4g} mA"
-            out.append(
-                f'<rect x="{along:.1f}" y="{y}" width="{long:.1f}" height="{BAR}" '
-                f'fill="{colour}"><title>{title}</title></rect>'
-            )
-            along += long
-        out.append(
-            f'<text x="{along + 6:.1f}" y="{y + BAR - 4}">{between(one.least / seconds, one.most / seconds, ".3f")} '
-            "mA</text>"
-        )
-    return "\n".join(out) + "\n</svg>\n"
+    return bars.drawn(currents_of(accounts, seconds), " mA", "mean current of each node")
 
 
 def configure(parser: argparse.ArgumentParser) -> None:

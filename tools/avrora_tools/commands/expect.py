@@ -1,13 +1,17 @@
 """Checks traces against cases: regression tests of firmware and networks."""
 import argparse
 import functools
+import shlex
 import time
-from collections.abc import Iterable, Iterator
-from typing import Any, NamedTuple
+from collections.abc import Iterable, Iterator, Sequence
+from typing import Any
 
+import avrora_tools
 from avrora_tools import cli, expectations, files, processes, showing, terminal, traces
 from avrora_tools.errors import BadWords, Status, ToolError
 from avrora_tools.expectations import Case, Outcome
+from avrora_tools.reporting import case_sections
+from avrora_tools.reporting.case_sections import Checked
 from avrora_tools.wholeness import Lacking
 
 SUMMARY = "checks traces against cases: regression tests"
@@ -31,14 +35,6 @@ cases are met; 1: one is not; 2: one is no case, or there is no whole trace for 
 refused, or is cut off; 3: the simulator failed or took too long."""
 
 
-class Result(NamedTuple):
-    """What came of a case."""
-
-    case: Case
-    outcome: Outcome
-    seconds: float
-
-
 def configure(parser: argparse.ArgumentParser) -> None:
     cli.describe(parser, DESCRIPTION, "expect --junit report.xml tests/*.expect")
     cli.add_simulator(parser)
@@ -46,6 +42,7 @@ def configure(parser: argparse.ArgumentParser) -> None:
         "--trace", metavar="FILE", help="check this trace (- the standard input), whatever the case names"
     )
     parser.add_argument("--junit", metavar="FILE", help="write a report in JUnit's XML too (needs python3-junit.xml)")
+    parser.add_argument("--html", metavar="FILE", help="write a page too: all cases, and what was not met")
     parser.add_argument("--save", action="store_true", help="write the golden traces anew")
     parser.add_argument("--jobs", type=cli.positive, default=1, metavar="N", help="cases at once (%(default)s)")
     timeout = "that a case may take: its run, and its check"
@@ -66,14 +63,16 @@ def run(arguments: argparse.Namespace) -> int:
         tell(len(results), result)
     if arguments.junit:
         files.write_whole(arguments.junit, junit(results, junit_xml))
+    if arguments.html:
+        files.write_whole(arguments.html, page(results, arguments.case))
     return max(result.outcome.status for result in results)
 
 
-def results_of(cases: list[Case], arguments: argparse.Namespace, avrora: str | None) -> Iterator[Result]:
+def results_of(cases: list[Case], arguments: argparse.Namespace, avrora: str | None) -> Iterator[Checked]:
     """What came of the cases, in their order."""
     works = [functools.partial(checked, case, arguments, avrora) for case in cases]
     if arguments.jobs == 1 and not arguments.timeout:
-        yield from (Result(case, *work()) for case, work in zip(cases, works))
+        yield from (Checked(case, *work()) for case, work in zip(cases, works))
         return
     tasks = processes.in_order(works, arguments.jobs, arguments.timeout, expectations.RUNS.end_all)
     for case, task in zip(cases, tasks):
@@ -83,7 +82,7 @@ def results_of(cases: list[Case], arguments: argparse.Namespace, avrora: str | N
             seconds = float(arguments.timeout)
             failure = f"{files.shown(case.path)}: it took more than {arguments.timeout} seconds"
             outcome = Outcome(failure, 0, len(case.statements), Status.CANNOT_WORK)
-        yield Result(case, outcome, seconds)
+        yield Checked(case, outcome, seconds)
 
 
 def checked(case: Case, arguments: argparse.Namespace, avrora: str | None) -> tuple[Outcome, float]:
@@ -106,7 +105,7 @@ def tap_name(name: str) -> str:
     return name.replace("#", r"\x23")
 
 
-def tell(number: int, result: Result) -> None:
+def tell(number: int, result: Checked) -> None:
     name, outcome = tap_name(files.shown(result.case.path)), result.outcome
     if not outcome.failure:
         print(f"ok {number} - {name} # {outcome.rows} rows, {outcome.expectations} expectations", flush=True)
@@ -115,6 +114,12 @@ def tell(number: int, result: Result) -> None:
     for line in showing.printable_lines(outcome.failure).split("\n"):
         print(f"    {line}")
     print("  ...", flush=True)
+
+
+def page(results: Sequence[Checked], names: Sequence[str]) -> str:
+    """The page of all cases."""
+    command = shlex.join(["avrora-tools", "expect", *map(files.shown, names)])
+    return case_sections.page(results, command, f"by avrora-tools {avrora_tools.__version__}")
 
 
 def junit_module() -> Any:
@@ -126,7 +131,7 @@ def junit_module() -> Any:
     return junit_xml
 
 
-def junit(results: Iterable[Result], junit_xml: Any) -> str:
+def junit(results: Iterable[Checked], junit_xml: Any) -> str:
     """The report of all cases for a server of builds: what is not met is a failure, what could not be checked an
     error."""
     found = []

@@ -23,10 +23,11 @@ DESCRIPTION = f"""Writes what traces say in the format of another program:
   lcov        genhtml, coverage pages: lines and functions that ran, of any number of traces or monitor reports
   perfetto    ui.perfetto.dev: functions, interrupts, sleep, radio with its flows, USART0, a process a node
   csv         pandas, R: a line a row
+  parquet     the same as columns, where pyarrow can be imported
 callgrind, folded, speedscope, lcov and perfetto's functions are of the window, in which instructions are traced.
 Their cycles are those of `profile`: sleep is left out, or with --asleep is a function of flame graphs. Times are by a
 clock of {cli.CLOCK:,} cycles a second, or of --hz. It takes a trace with its end rows, also one of `avrora resume` and
-of the tool window, or with --head the beginning of one; csv takes any rows."""
+of the tool window, or with --head the beginning of one; csv and parquet take any rows."""
 
 
 class Format(NamedTuple):
@@ -161,6 +162,12 @@ def text_of_csv(source: Source) -> Iterator[str]:
     return tables.written(row for row in rows if source.wanted(row[1]))
 
 
+def blocks_of_parquet(source: Source) -> Iterator[bytes]:
+    library = tables.parquet_library()
+    rows = source.trace(traces.Form.ROWS)
+    return tables.parquet((row for row in rows if source.wanted(row[1])), library)
+
+
 def blocks_of_pcapng(source: Source) -> Iterator[bytes]:
     scenario = source.needs_scenario()
     if source.nodes is not None:
@@ -191,6 +198,7 @@ FORMATS = {
     "lcov": Format("genhtml: lines and functions that ran", lines_of_lcov, takes_many=True),
     "perfetto": Format("ui.perfetto.dev: a timeline", text_of_perfetto),
     "csv": Format("pandas, R: a row a line", text_of_csv),
+    "parquet": Format("pandas, R: columns of rows, by pyarrow", blocks_of_parquet),
 }
 
 

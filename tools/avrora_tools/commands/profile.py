@@ -2,11 +2,11 @@
 import argparse
 import collections
 import itertools
-from collections.abc import Callable, Mapping
+from collections.abc import Mapping
 
 from avrora_tools import cli, files, programs, profiles, traces
 from avrora_tools.errors import BadInput, BadWords
-from avrora_tools.profiles import Call, Spent
+from avrora_tools.profiles import Call, Namer, Names, Spent
 from avrora_tools.scenarios import Scenario
 
 SUMMARY = "cycles by function, line and caller; coverage"
@@ -19,10 +19,6 @@ where the trace is of another window than the scenario's (as the tool window mak
 instruction or entry row to the last, or to the trace's end. Charge is in units: 8 for each busy cycle, 1 for each
 asleep, 512 for each byte sent in the window."""
 
-# Names what an instruction of a node belongs to.
-Namer = Callable[[int, int], str]
-
-
 def print_nodes(spent: Mapping[int, Spent]) -> None:
     print(f"{'node':>5} {'busy':>12} {'asleep':>12} {'stopped':>12} {'unknown':>8} {'charge':>14}")
     for node in sorted(spent):
@@ -32,30 +28,10 @@ def print_nodes(spent: Mapping[int, Spent]) -> None:
 
 def print_flat(title: str, spent: Mapping[int, Spent], name_of: Namer) -> None:
     """Cycles by name, most first; `name_of(node, word)` names what an instruction belongs to."""
-    cycles: collections.Counter[str] = collections.Counter()
-    counts: collections.Counter[str] = collections.Counter()
-    entered = entering = 0
-    for node, one in spent.items():
-        for word, share in one.at.items():
-            name = name_of(node, word)
-            cycles[name] += share.cycles
-            counts[name] += share.count
-        entered += sum(share.count for share in one.vector.values())
-        entering += sum(share.cycles for share in one.vector.values())
     total = sum(one.total() for one in spent.values())
     print(f"\n{title}\n{'cycles':>12} {'%':>6} {'rows':>10}")
-    rows = [
-        (taken, str(counts[name]), name) for name, taken in sorted(cycles.items(), key=lambda item: (-item[1], item[0]))
-    ]
-    rows += [
-        (entering, str(entered), "(entering interrupts)"),
-        (sum(one.asleep for one in spent.values()), "", "(asleep)"),
-        (sum(one.stopped for one in spent.values()), "", "(stopped)"),
-        (sum(one.lead for one in spent.values()), "", "(before the first row)"),
-    ]
-    for taken, count, name in rows:
-        if taken:
-            print(f"{taken:>12,} {100 * taken / total:>6.2f} {count:>10}  {name}")
+    for taken, count, name in profiles.by_name(spent, name_of):
+        print(f"{taken:>12,} {100 * taken / total:>6.2f} {'' if count is None else count:>10}  {name}")
 
 
 INTERRUPT = "(interrupt)"  # what calls the handler that has its name
@@ -74,35 +50,9 @@ def print_callers(calls: Mapping[Call, int], name_of: Namer) -> None:
 
 def print_coverage(spent: Mapping[int, Spent], all_programs: programs.Programs) -> None:
     for program in all_programs.all:
-        hit = {
-            word
-            for node, one in spent.items()
-            if all_programs.of(node) is program
-            for word, share in one.at.items()
-            if share.count
-        }
         print(f"\ninstructions of {program.name} that ran\n{'ran':>7} {'of':>6} {'%':>5}")
-        for function in program.functions:
-            words = list(program.instructions(function))
-            ran = len(hit.intersection(words))
-            print(f"{ran:>7} {len(words):>6} {100 * ran / max(1, len(words)):>5.0f}  {function.name}")
-
-
-class Names:
-    """What instructions belong to."""
-
-    def __init__(self, all_programs: programs.Programs) -> None:
-        self.programs = all_programs
-
-    def function(self, node: int, word: int) -> str:
-        program = self.programs.of(node)
-        function = program.function_at(word) if program else None
-        return function.name if function else f"{word:04X}"
-
-    def line(self, node: int, word: int) -> str:
-        program = self.programs.of(node)
-        line = program.line_at(word) if program else None
-        return line or f"{self.function(node, word)} (no line)"
+        for function, ran, of in profiles.covered(spent, all_programs, program):
+            print(f"{ran:>7} {of:>6} {100 * ran / max(1, of):>5.0f}  {function.name}")
 
 
 def configure(parser: argparse.ArgumentParser) -> None:

@@ -3,12 +3,17 @@ import argparse
 import contextlib
 import os
 import re
+import shlex
 import time
 from collections.abc import Iterator
 from dataclasses import replace
 
+import avrora_tools
 from avrora_tools import cases, cli, files, programs, scenarios, shipping, toml
 from avrora_tools.errors import BadInput, BadWords, Status
+from avrora_tools.reporting import findings as page_findings
+from avrora_tools.reporting import sweep_sections
+from avrora_tools.reporting.findings import Search
 from avrora_tools.states import State
 from avrora_tools.sweeping.always import AlwaysCheck, always_check
 from avrora_tools.sweeping.cluster import WRITTEN, ClusterTails
@@ -23,7 +28,6 @@ from avrora_tools.sweeping.telling import (
     compares_nothing,
     first_move,
     print_cost,
-    print_finding,
     print_plan,
     print_totals,
     run_all,
@@ -39,6 +43,7 @@ from avrora_tools.sweeping.verdicts import (
     nodes_of,
     predicate_of,
 )
+from avrora_tools.sweeping.wording import lines_of, search_of, told
 
 SUMMARY = "moves an event cycle by cycle, and tells which moves break a run and where"
 
@@ -54,12 +59,13 @@ classes are run, unless --quick, --runs, --stop, --per-place or a step says othe
 not. --quick is a first look: a clean one proves nothing.
 
 Each run is checked at its end, which is the deadline of all that is checked: the scenario's `cycles`, or --until.
-Unless --expect, --check or --always says otherwise each node is to write to USART0 what it writes in the run that is not
-moved.
+Unless --expect, --check or --always says otherwise each node is to write to USART0 what it writes in the run that is
+not moved.
 With -e, of the program of the node whose byte moves, functions, lines and what handlers share with main have their
 names, and it is told where a failing run parts from one that passes.
 
 Status 0: no run fails; 1: one does; 2: the words or the files are bad."""
+
 
 def run(arguments: argparse.Namespace) -> int:
     options = Options(
@@ -71,12 +77,16 @@ def run(arguments: argparse.Namespace) -> int:
             print_cost(sweep, seconds_of_one(sweep), arguments.jobs)
         results = run_all(sweep, options)
         print_totals(sweep, results, options)
-        found = sweep.findings()
-        for number, finding in enumerate(found, 1):
-            print_finding(sweep, number, finding)
+        found = []
+        for number, finding in enumerate(sweep.findings(), 1):
+            found.append(told(sweep, finding))
+            print("\n".join(lines_of(number, found[-1])))
+        earliest = None
         if found and arguments.out:
-            command = write_earliest(arguments.out, sweep, found[0].first())
-            print(f"earliest: {shown_command(sweep.tails.simulator, command)}")
+            command = write_earliest(arguments.out, sweep, found[0].finding.first())
+            earliest = shown_command(sweep.tails.simulator, command)
+            print(f"earliest: {earliest}")
+        write_pages(arguments, sweep, search_of(sweep, options, found, [own_command(arguments)], earliest))
         if compares_nothing(sweep) and not results.failures:
             if limit.is_over():
                 return limit.status(Status.GOOD)
@@ -94,6 +104,26 @@ def seconds_of_one(sweep: Sweep) -> float:
     begun = time.monotonic()
     sweep.tails.output(sweep.cells[0].move())
     return time.monotonic() - begun
+
+
+def own_command(arguments: argparse.Namespace) -> str:
+    """A command that makes the sweep again."""
+    words = [word for option, value in arguments.moved for word in (f"--{option}", value)]
+    words += ["--until", str(arguments.until)] if arguments.until else []
+    words += ["-e", arguments.elf] if arguments.elf else []
+    words += ["--expect", arguments.expect] if arguments.expect else []
+    words += [word for condition in arguments.always or [] for word in ("--always", condition)]
+    return shlex.join(["avrora-tools", "sweep", files.shown(arguments.scenario), *map(files.printable, words)])
+
+
+def write_pages(arguments: argparse.Namespace, sweep: Sweep, search: Search) -> None:
+    """The page, and the findings as data, where they are asked for."""
+    if arguments.html:
+        title = files.shown(os.path.basename(arguments.scenario))
+        text = sweep_sections.page(sweep, search, title, f"by avrora-tools {avrora_tools.__version__}")
+        files.write_whole(arguments.html, text)
+    if arguments.findings:
+        files.write_whole(arguments.findings, page_findings.written(search))
 
 
 @contextlib.contextmanager
@@ -347,6 +377,8 @@ def configure(parser: argparse.ArgumentParser) -> None:
         help="write the earliest failing scenario, with a window about the arrival, and FILE.state and FILE.moves "
         "where it needs them",
     )
+    parser.add_argument("--html", metavar="FILE", help="write a page too: the findings, and which moves fail")
+    parser.add_argument("--findings", metavar="FILE", help="write the findings as JSON too, for `report`")
     parser.add_argument("--all", action="store_true", help="run each move, and not one of each class")
     parser.add_argument("--quick", action="store_true", help="a first look: not all classes are run")
     parser.add_argument(

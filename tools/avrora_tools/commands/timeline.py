@@ -1,63 +1,30 @@
 """Draws a trace: a page to zoom into, or a picture."""
 import argparse
-import importlib.resources
 import os
 
-import avrora_tools
-from avrora_tools import cli, drawings, files, pictures, programs, showing, terminal, traces
+from avrora_tools import cli, files, pictures, programs, traces
 from avrora_tools.drawings import Drawing
 from avrora_tools.errors import BadInput, BadWords
+from avrora_tools.reporting import resting, timelines
 from avrora_tools.scenarios import Scenario
+from avrora_tools.sweeping.simulation import Simulator
 
 SUMMARY = "a page to zoom into, or a picture"
 
 DESCRIPTION = """Draws a trace: nodes from top to bottom, cycles from left to right. Writes a page of HTML that needs no
-other file (zoom with the wheel, drag, hover, go to a cycle, from clash to clash), or with --svg a picture for papers.
-With the scenario (-s) it knows how long a byte is on the air, and who clashed with whom. Sleep is known in the window
-of the scenario alone, where instructions are traced. A page of more than 5 MB is thinned: of samples, then of other
-events, of clashes last, that lie close together one is kept, and the page says so; --from, --to and --nodes draw less,
-and all of it.
+other file (zoom with the wheel, drag, click what to know more of, go to a cycle, from clash to clash, measure between
+two markers), or with --svg a picture for papers.
+With the scenario (-s) it knows how long a byte is on the air, and who clashed with whom. When exactly a node sleeps is
+known in the window of the scenario alone, where instructions are traced; with --sleep the simulator's `monitor` tells
+which part of each span of the run it slept. With programs (-e) a chosen event tells its source line, in the window. A
+page of more than 5 MB is thinned: of samples, then of other events, of clashes last, that lie close together one is
+kept, and the page says so; --from, --to and --nodes draw less, and all of it.
 It takes a trace with its end rows, also one of `avrora resume` and of the tool window, or with --head the beginning of
 one."""
 
-LARGEST_PAGE = 5_000_000  # bytes
-
-
-def page(drawing: Drawing, hz: int | None, name: str) -> str:
-    """The page: timeline.html with the data in its place, thinned to what a page may have."""
-    template = importlib.resources.files(avrora_tools).joinpath("timeline.html").read_text("utf-8")
-    template = template.replace("/*TITLE*/", showing.markup(name))
-    thinning = drawings.least_thinning(drawing, LARGEST_PAGE - len(template) - len(showing.script_data(content(drawing, hz))))
-    if thinning.step:
-        terminal.warn(f"{thinning}; --from, --to and --nodes draw less, and all of it")
-    return template.replace("/*DATA*/null", showing.script_data(content(drawing, hz, thinning)))
-
-
-def content(drawing: Drawing, hz: int | None, thinning: drawings.Thinning | None = None) -> dict[str, object]:
-    """The data of the page; without an event where no `thinning` is named."""
-    scenario = drawing.scenario
-    links = [[link.sender, link.hearer, link.latency] for link in scenario.links] if scenario else []
-    nodes = [
-        {"node": node, "name": drawing.name(node), "state": lane.state, "closed": drawing.closed(node)}
-        | {kind: drawings.flat(thinning.of(kind, lane), kind) if thinning else [] for kind in drawings.FIELDS}
-        for node, lane in sorted(drawing.lanes.items())
-    ]
-    return {
-        "first": drawing.first,
-        "end": drawing.last_cycle,
-        "byteTime": drawing.byte_time,
-        "hz": hz or 0,
-        "links": links,
-        "window": list(drawing.window),
-        "thinned": str(thinning or drawings.MOST_WORDS),
-        "nodes": nodes,
-        "vectors": {word: programs.vector_name(word) for word in programs.VECTORS},
-    }
-
-
 def configure(parser: argparse.ArgumentParser) -> None:
     cli.describe(parser, DESCRIPTION, "timeline -s flood.toml -o flood.html flood.trace")
-    cli.add_scenario(parser)
+    programs.add_programs(parser)
     parser.add_argument("-o", "--out", default="-", metavar="FILE", help="where to write; else the standard output")
     parser.add_argument("--from", dest="first", type=cli.natural, default=0, metavar="CYCLE", help="from this cycle on")
     parser.add_argument("--to", dest="end", type=cli.positive, metavar="CYCLE", help="before this cycle")
@@ -68,6 +35,13 @@ def configure(parser: argparse.ArgumentParser) -> None:
         "--quiet",
         action="store_true",
         help="show samples that heard nothing in the picture too (the page has a switch)",
+    )
+    parser.add_argument(
+        "--sleep", action="store_true", help="run `avrora monitor`, and show sleep in the whole run (-s)"
+    )
+    cli.add_simulator(parser)
+    parser.add_argument(
+        "--timeout", type=cli.positive, default=600, metavar="S", help="seconds that a run may take (%(default)s)"
     )
     cli.add_clock(parser)
     cli.add_head(parser)
@@ -81,14 +55,23 @@ def run(arguments: argparse.Namespace) -> int:
     is_picture = arguments.svg or name.endswith(".svg")
     if is_picture and name.endswith((".html", ".htm")):
         raise BadWords(f"--svg writes a picture, and {files.shown(arguments.out)} is the name of a page")
+    if arguments.sleep and not arguments.scenario:
+        raise BadWords("--sleep wants the scenario (-s), which it runs")
     scenario = Scenario.load(arguments.scenario) if arguments.scenario else None
+    all_programs = programs.Programs(arguments.elf, scenario, arguments.force)
     trace = traces.read(arguments.trace, traces.form_of(arguments), scenario=scenario, epochs=arguments.head)
-    drawing = Drawing(trace, arguments.first, arguments.end, arguments.nodes)
+    drawing = Drawing.of(trace, arguments.first, arguments.end, arguments.nodes, all_programs)
     if not drawing.lanes:
         raise BadInput("the trace has no row of these nodes")
+    if arguments.sleep and scenario:
+        path = os.path.abspath(arguments.scenario)
+        simulator = Simulator(cli.simulator(arguments.avrora), os.path.dirname(path), arguments.timeout)
+        whole = resting.monitored(simulator, path, scenario, 0, scenario.cycles)
+        resting.add_to(drawing, simulator, path, scenario, whole)
     if is_picture:
         text = pictures.Picture(drawing, arguments.hz, arguments.width, arguments.quiet).text()
     else:
-        text = page(drawing, arguments.hz, os.path.basename(files.shown(arguments.trace)))
+        names = timelines.Names(arguments.scenario, arguments.trace, arguments.elf)
+        text = timelines.page(drawing, arguments.hz, os.path.basename(files.shown(arguments.trace)), names)
     files.write_whole(arguments.out, text)
     return 0

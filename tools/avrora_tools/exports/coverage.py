@@ -17,10 +17,17 @@ class Covered:
         self.counts.setdefault(program, collections.Counter()).update(counts)
 
 
-def written(covered: Covered) -> Iterator[str]:
-    """The lines of a tracefile, a record for each source file. A line counts as its instruction that ran most."""
-    lines: dict[str, collections.Counter[int]] = collections.defaultdict(collections.Counter)
-    functions: dict[str, dict[str, tuple[int, int]]] = collections.defaultdict(dict)  # by file: line and count by name
+class Source:
+    """What ran of a source file: how often each line did, and of each function its line and how often it was begun."""
+
+    def __init__(self) -> None:
+        self.lines: collections.Counter[int] = collections.Counter()
+        self.functions: dict[str, tuple[int, int]] = {}
+
+
+def sources(covered: Covered) -> dict[str, Source]:
+    """What ran by the paths of source files. A line counts as its instruction that ran most."""
+    found: dict[str, Source] = collections.defaultdict(Source)
     for program, counts in covered.counts.items():
         own: dict[str, collections.Counter[int]] = collections.defaultdict(collections.Counter)
         for function in program.functions:
@@ -31,15 +38,20 @@ def written(covered: Covered) -> Iterator[str]:
                 own[at.path][at.line] = max(own[at.path][at.line], counts[word])
                 if word == function.first:
                     name = str(function.name)
-                    before = functions[at.path].get(name, (at.line, 0))
-                    functions[at.path][name] = before[0], before[1] + counts[word]
+                    before = found[at.path].functions.get(name, (at.line, 0))
+                    found[at.path].functions[name] = before[0], before[1] + counts[word]
         for path, its_lines in own.items():
             for line, count in its_lines.items():
-                lines[path][line] += count
+                found[path].lines[line] += count
+    return dict(sorted(found.items()))
+
+
+def written(covered: Covered) -> Iterator[str]:
+    """The lines of a tracefile, a record for each source file."""
     yield "TN:"
-    for path in sorted(lines):
+    for path, source in sources(covered).items():
         yield f"SF:{found(path, covered)}"
-        yield from record(functions[path], lines[path])
+        yield from record(source.functions, source.lines)
 
 
 def record(functions: Mapping[str, tuple[int, int]], lines: Mapping[int, int]) -> Iterator[str]:

@@ -4,17 +4,14 @@ import shlex
 from collections.abc import Sequence
 
 from avrora_tools import files
-from avrora_tools.sweeping import findings as grouping
-from avrora_tools.sweeping.events import InputByte, Move, MovedScenario, is_alone
-from avrora_tools.sweeping.findings import Finding
+from avrora_tools.sweeping.events import InputByte, MovedScenario, is_alone
 from avrora_tools.sweeping.limits import shown_time
 from avrora_tools.sweeping.plans import Cell
 from avrora_tools.sweeping.simulation import Simulator, scenario_text
 from avrora_tools.sweeping.sweep import ALL_FAIL, Options, Results, Sweep
 from avrora_tools.sweeping.verdicts import SerialCheck
+from avrora_tools.sweeping.wording import shown_move
 
-MOST_SPANS = 4  # stretches of a finding that are told
-MOST_TEXTS = 3  # and kinds of failure
 BEFORE, BEHIND = 200, 2_000  # cycles of the window of the earliest failing run, about where its byte is noticed
 
 LONG = 600  # seconds, above which it is told what would make a sweep shorter
@@ -98,40 +95,6 @@ def print_totals(sweep: Sweep, results: Results, options: Options) -> None:
         print(f"{missed:,} of {len(sweep.cells):,} classes were not run")
     if options.quick and not results.failures:
         print("this was a first look, which proves nothing: without --quick all classes are run")
-
-
-def print_finding(sweep: Sweep, number: int, finding: Finding) -> None:
-    spots = " and ".join(grouping.lines_of(finding.spots))
-    used = sweep.thing_in_use(finding)
-    texts = grouping.counted([sweep.results.failures[cell] for cell in finding.failing])
-    print(
-        f"{number}. {finding.failing_arrivals:,} of {finding.arrivals:,} arrivals while {spots}"
-        + (f"; {used}" if used else "")
-        + f": {texts[0][0]}"
-    )
-    for text, count in texts[1:MOST_TEXTS]:
-        print(f"   also ({count:,} classes): {text}")
-    if len(texts) > MOST_TEXTS:
-        print(f"   and {len(texts) - MOST_TEXTS:,} other failures")
-    stretches = grouping.spans(finding.failing)
-    told = ", ".join(
-        f"{first:,}" if first == last else f"{first:,} to {last:,}" for first, last in stretches[:MOST_SPANS]
-    )
-    more = len(stretches) - MOST_SPANS
-    print(f"   moves: {told}" + (f" and {more:,} more stretches" if more > 0 else ""))
-    if ends := sweep.ends(finding):
-        print(f"   {ends}")
-    if late := sweep.late(finding):
-        behind = late.cycle - sweep.scenario.until
-        print(f"   late: node {late.node} writes it in cycle {late.cycle:,}, {behind:,} behind the end of the run")
-        if late.wrong_at_last:
-            print(f"   a longer --until is no help: at {sweep.scenario.document['cycles']:,} {late.wrong_at_last}")
-    if parting := sweep.parting(finding):
-        print(f"   in run {shown_move(finding.first().move())} {parting}")
-
-
-def shown_move(move: Move) -> str:
-    return ", ".join(f"{value:,}" for value in move)
 
 
 def write_earliest(path: str, sweep: Sweep, cell: Cell) -> list[str]:

@@ -1,0 +1,1 @@
+"""Pages and pictures that a person reads: of one run, and of many."""
