@@ -98,6 +98,12 @@ leaves_timers (Timer3 reg) = false
 leaves_timers (Usart0 reg) = true
 leaves_timers (Spi reg) = true
 
+-- TIFR and ETIFR
+abbrev pub is_flags : Rule → Bool
+is_flags TimerFlags = true
+is_flags ExtendedTimerFlags = true
+is_flags _ = false
+
 -- neither TIMSK nor ETIMSK, which enable the timers' lines
 abbrev pub is_no_mask : ℕ → Bool
 is_no_mask at = not (at == TIMSK) && not (at == ETIMSK)

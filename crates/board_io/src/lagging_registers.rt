@@ -1,6 +1,6 @@
 // The I/O registers of a board that lags.
 ghost use Rattle.std.specs.Prelude.{◌≡◌, ◌≤◌, true, false};
-ghost use Rattle.board_io.specs.Lagging.{ReadsStill, is_spdr, is_still_port, is_still_read, is_udr, is_plain_read, is_plain_write, leaves_timers};
+ghost use Rattle.board_io.specs.Lagging.{ReadsStill, is_flags, is_spdr, is_still_port, is_still_read, is_udr, is_plain_read, is_plain_write, leaves_timers};
 ghost use Rattle.board_io.specs.Table.{rule_of};
 ghost use Rattle.serial_ports.specs.Usart.{lines_of as usart_lines};
 
@@ -264,6 +264,25 @@ impl LaggingBoard {
         put
     }
 
+    // A write of TIFR or ETIFR, which moves no event: where no timer has set a flag since its timers were made up for, the
+    // flags are cleared before their cycles as behind them.
+    #[inline(never)]
+    fn put_flags(&mut self, rule: Rule, at: u8, x: u8) -> Result<(), StopCause>
+        requires { is_flags rule ≡ true }
+        ensures { IsPut (put_in rule self.old at x) self.old result self.new }
+    {
+        if self.held.clock.get() > self.ahead.steady {
+            return self.put_and_look_ahead(rule, at, x);
+        }
+        let put = self.held.board.put_by(self.held.clock, rule, at, x);
+        let lines = self.held.board.lines().bits;
+        let next = self.ahead.next.min(self.ahead.steady);
+        self.ahead.next = next;
+        self.ahead.lines = lines;
+        self.ahead.clear = clear_until(lines, next);
+        put
+    }
+
     // A write that may move a line or an event.
     #[inline(never)]
     fn put_beside(&mut self, at: u16, x: u8) -> Result<(), StopCause>
@@ -274,6 +293,7 @@ impl LaggingBoard {
         let rule = listed_rule(at);
         match rule {
             Rule::Usart0(_) | Rule::Spi(_) | Rule::Kept(_) => self.put_port(rule, low, x),
+            Rule::TimerFlags | Rule::ExtendedTimerFlags => self.put_flags(rule, low, x),
             _ => self.put_and_look_ahead(rule, low, x),
         }
     }

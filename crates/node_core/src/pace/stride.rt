@@ -28,7 +28,7 @@ impl Machine {
         if cycle + u64::from(taken) > end {
             return false;
         }
-        self.bus.io.leap_whole(cycle, taken)
+        self.bus.io.leap_quiet(cycle, taken)
     }
 
     // The devices' part of the cycle `cycle`, in which an instruction begins that takes `taken` cycles, and its other
