@@ -183,6 +183,10 @@ impl LaggingBoard {
         if self.leap_whole(cycle, n) {
             return true;
         }
+        // most often a transfer's end is what comes
+        if self.held.board.may_end_before(cycle + u64::from(n)) {
+            return false;
+        }
         self.leap_over_flags(cycle, n)
     }
 
@@ -203,7 +207,7 @@ impl LaggingBoard {
         }
         self.held.board.leap(settled, end - settled);
         self.held.clock = Clock::new(end);
-        self.ahead = self.held.board.ahead(end);
+        self.ahead = self.held.board.ahead(end, self.ahead.lines);
         true
     }
 
@@ -223,7 +227,7 @@ impl LaggingBoard {
         self.held.board.leap(settled, n);
         let begun = self.held.board.begin_ports(cycle, arrival);
         self.held.clock = Clock::new(cycle + 1);
-        self.ahead = self.held.board.ahead(cycle + 1);
+        self.ahead = self.held.board.ahead(cycle + 1, self.ahead.lines);
         begun
     }
 
@@ -255,7 +259,10 @@ impl LaggingBoard {
             .board
             .catch_up(self.ahead.settled, self.held.clock);
         self.held.board.answer(h);
-        self.ahead = self.held.board.ahead(self.held.clock.get());
+        self.ahead = self
+            .held
+            .board
+            .ahead(self.held.clock.get(), self.ahead.lines);
     }
 
     /// What serving the interrupt of the vector `v` does to its source.
@@ -285,6 +292,9 @@ impl LaggingBoard {
             .board
             .catch_up(self.ahead.settled, self.held.clock);
         self.held.board.entered(v);
-        self.ahead = self.held.board.ahead(self.held.clock.get());
+        self.ahead = self
+            .held
+            .board
+            .ahead(self.held.clock.get(), self.ahead.lines);
     }
 }

@@ -228,7 +228,10 @@ impl LaggingBoard {
             .board
             .catch_up(self.ahead.settled, self.held.clock);
         let got = self.held.board.get_by(rule, at);
-        self.ahead = self.held.board.ahead(self.held.clock.get());
+        self.ahead = self
+            .held
+            .board
+            .ahead(self.held.clock.get(), self.ahead.lines);
         got
     }
 
@@ -239,6 +242,16 @@ impl LaggingBoard {
         ensures { IsPut (put_in rule self.old at x) self.old result self.new }
     {
         self.held.board.put_by(self.held.clock, rule, at, x)
+    }
+
+    // A write of a register that only holds a byte.
+    #[inline(always)]
+    fn put_kept(&mut self, mask: u8, at: u8, x: u8) -> Result<(), StopCause>
+        requires { is_plain_write (Rule.Kept mask) at ≡ true }
+        ensures { IsPut (put_in (Rule.Kept mask) self.old at x) self.old result self.new }
+    {
+        self.held.board.keep(at, x & mask);
+        Ok(())
     }
 
     // A read of USART0 or of the serial peripheral interface, which may move its lines and its end.
@@ -327,7 +340,10 @@ impl LaggingBoard {
             .board
             .catch_up(self.ahead.settled, self.held.clock);
         let put = self.held.board.put_by(self.held.clock, rule, at, x);
-        self.ahead = self.held.board.ahead(self.held.clock.get());
+        self.ahead = self
+            .held
+            .board
+            .ahead(self.held.clock.get(), self.ahead.lines);
         put
     }
 }
@@ -359,6 +375,11 @@ impl Bus for LaggingBoard {
         }
         let low = at as u8;
         let rule = listed_rule(at);
+        if let Rule::Kept(mask) = rule {
+            if low != TIMSK && low != ETIMSK {
+                return self.put_kept(mask, low, b);
+            }
+        }
         if is_plain_write(rule, low) {
             return self.put_plain(rule, low, b);
         }
