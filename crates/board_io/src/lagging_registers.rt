@@ -1,5 +1,11 @@
 // The I/O registers of a board that lags.
-ghost use Rattle.std.specs.Prelude.{◌≡◌, ◌≤◌, true, false};
+ghost use Rattle.std.specs.Prelude.{◌≡◌, ◌≤◌, ◌+◌, true, false};
+ghost use Rattle.air_base.specs.Bounds.{LAST_END};
+ghost use Rattle.avr_timers.specs.Clock.{cycles};
+ghost use Rattle.avr_timers.specs.Registers16 as reg16;
+ghost use Rattle.avr_timers.specs.Registers8 as reg8;
+ghost use Rattle.avr_timers.specs.Timer16 as timer16;
+ghost use Rattle.avr_timers.specs.Timer8 as timer8;
 ghost use Rattle.board_io.specs.Lagging.{ReadsStill, is_flags, is_spdr, is_still_port, is_still_read, is_udr, is_plain_read, is_plain_write, leaves_timers};
 ghost use Rattle.board_io.specs.Table.{rule_of};
 ghost use Rattle.serial_ports.specs.Usart.{lines_of as usart_lines};
@@ -10,6 +16,7 @@ use crate::passing::cycles_before;
 use crate::rules::{LAST, Rule, listed_rule};
 use crate::{Board, LaggingBoard};
 use avr_base::StopCause;
+use avr_timers::{Reg8, Reg16, Timer8, Timer16};
 use data_space::Bus;
 use serial_ports::{Spi, SpiReg, UsartReg};
 
@@ -92,6 +99,29 @@ fn is_still_port(reg: SpiReg, port: &Spi) -> bool
         SpiReg::Status => !port.spif & !port.wcol & !port.noted_spif & !port.noted_wcol,
         SpiReg::Spdr => false,
     }
+}
+
+// What a register of a timer reads as behind the `n` cycles from `cycle` on, of which the timer is not told.
+fn late_8(timer: &Timer8, cycle: u64, n: u64, reg: Reg8) -> u8
+    requires { cycle + n ≤ LAST_END }
+    ensures { result ≡ reg8.get_of (cycles timer8.timer_cycle cycle n timer.now) reg }
+{
+    let mut later = *timer;
+    later.leap(cycle, n);
+    later.get(reg)
+}
+
+// The same of a timer of sixteen bits: of it TEMP may change.
+fn late_16(timer: &mut Timer16, cycle: u64, n: u64, reg: Reg16) -> u8
+    requires { cycle + n ≤ LAST_END }
+    ensures got { reg16.get_of (cycles timer16.timer_cycle cycle n timer.old) reg ≡ (result, cycles timer16.timer_cycle cycle n timer.new) }
+    ensures others { timer.new ≡ record timer.old { temp = timer.new.temp } }
+{
+    let mut later = *timer;
+    later.leap(cycle, n);
+    let byte = later.get(reg);
+    timer.temp = later.temp;
+    byte
 }
 
 impl Board {
@@ -205,8 +235,8 @@ impl LaggingBoard {
             .get_by(Rule::Usart0(UsartReg::Udr), at as u8)
     }
 
-    // A read of a port, or of a timer that may have passed its top, in a call of its own: inlined, the code would slow the
-    // other reads.
+    // A read of a port, or of a timer that may have passed its top: this timer alone is looked at, and what is known of the
+    // board stays. In a call of its own: inlined, the code would slow the other reads.
     #[inline(never)]
     fn get_beside(&mut self, at: u16) -> Result<u8, StopCause>
         requires { at ≤ 0x9F }
@@ -214,7 +244,13 @@ impl LaggingBoard {
     {
         let low = at as u8;
         let rule = listed_rule(at);
+        let settled = self.ahead.settled;
+        let n = self.held.clock.get() - settled;
         match rule {
+            Rule::Timer0(reg) => Ok(late_8(&self.held.board.t0, settled, n, reg)),
+            Rule::Timer1(reg) => Ok(late_16(&mut self.held.board.t1, settled, n, reg)),
+            Rule::Timer2(reg) => Ok(late_8(&self.held.board.t2, settled, n, reg)),
+            Rule::Timer3(reg) => Ok(late_16(&mut self.held.board.t3, settled, n, reg)),
             Rule::Usart0(_) | Rule::Spi(_) => self.get_port(rule, low),
             _ => self.get_caught_up(rule, low),
         }
