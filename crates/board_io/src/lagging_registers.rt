@@ -6,7 +6,7 @@ ghost use Rattle.avr_timers.specs.Registers16 as reg16;
 ghost use Rattle.avr_timers.specs.Registers8 as reg8;
 ghost use Rattle.avr_timers.specs.Timer16 as timer16;
 ghost use Rattle.avr_timers.specs.Timer8 as timer8;
-ghost use Rattle.board_io.specs.Lagging.{ReadsStill, is_flags, is_spdr, is_still_port, is_still_read, is_udr, is_plain_read, is_plain_write, leaves_timers};
+ghost use Rattle.board_io.specs.Lagging.{ReadsStill, is_flags, is_high, is_spdr, is_still_port, is_still_read, is_udr, is_plain_read, is_plain_write, leaves_timers};
 ghost use Rattle.board_io.specs.Table.{rule_of};
 ghost use Rattle.serial_ports.specs.Usart.{lines_of as usart_lines};
 
@@ -67,8 +67,24 @@ fn is_plain_read(rule: Rule) -> bool
     }
 }
 
-// Whether a write by a rule of the register at an address looks at no timer, and leaves the lines and what may end.
-// TIMSK and ETIMSK enable the timers' lines.
+// Whether a register of a timer of sixteen bits is a high byte, whose write fills TEMP alone.
+#[inline]
+fn is_high(reg: Reg16) -> bool
+    ensures { result ≡ is_high reg }
+{
+    match reg {
+        Reg16::CountH | Reg16::IcrH | Reg16::CompH(_) => true,
+        Reg16::ControlA
+        | Reg16::ControlB
+        | Reg16::ControlC
+        | Reg16::CountL
+        | Reg16::IcrL
+        | Reg16::CompL(_) => false,
+    }
+}
+
+// Whether a write by a rule of the register at an address moves no event of a timer, and leaves the lines and what may
+// end. TIMSK and ETIMSK enable the timers' lines.
 #[inline]
 fn is_plain_write(rule: Rule, at: u8) -> bool
     ensures { result ≡ is_plain_write rule at }
@@ -81,11 +97,10 @@ fn is_plain_write(rule: Rule, at: u8) -> bool
         Rule::TimerFlags
         | Rule::ExtendedTimerFlags
         | Rule::Timer0(_)
-        | Rule::Timer1(_)
         | Rule::Timer2(_)
-        | Rule::Timer3(_)
         | Rule::Usart0(_)
         | Rule::Spi(_) => false,
+        Rule::Timer1(reg) | Rule::Timer3(reg) => is_high(reg),
     }
 }
 
@@ -271,7 +286,7 @@ impl LaggingBoard {
         got
     }
 
-    // A write that looks at no timer.
+    // A write that moves no timer's event.
     #[inline]
     fn put_plain(&mut self, rule: Rule, at: u8, x: u8) -> Result<(), StopCause>
         requires { is_plain_write rule at ≡ true }
