@@ -426,16 +426,10 @@ impl Bus for LaggingBoard {
         }
         let low = at as u8;
         let rule = listed_rule(at);
-        if let Rule::Kept(mask) = rule {
-            if low != TIMSK && low != ETIMSK {
-                return self.put_kept(mask, low, b);
-            }
-        }
-        if is_plain_write(rule, low) {
-            return self.put_plain(rule, low, b);
-        }
         match rule {
+            Rule::Kept(mask) if low != TIMSK && low != ETIMSK => self.put_kept(mask, low, b),
             Rule::Spi(SpiReg::Spdr) => self.put_spdr(at, b),
+            _ if is_plain_write(rule, low) => self.put_plain(rule, low, b),
             _ => self.put_beside(at, b),
         }
     }
