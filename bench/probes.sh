@@ -66,7 +66,7 @@ tifr_four_timers           1799 none: ldi r16, 9 | out 0x33, r16 | out 0x25, r16
 tcnt1_four_timers           176 none: ldi r16, 9 | out 0x33, r16 | out 0x25, r16 | ldi r16, 2 | out 0x31, r16 | out 0x23, r16 | out 0x2A, r16 | ldi r16, 9 | out 0x2E, r16 | ldi r16, 4 | sts 0x86, r16 | ldi r16, 9 | sts 0x8A, r16 | again: | lds r20, 0x4C | rjmp again
 tifr_ctc_5                  336 none: ldi r16, 9 | out 0x33, r16 | ldi r16, 5 | out 0x31, r16 | ldi r17, 255 | again: | out 0x36, r17 | rjmp again
 tcnt0_ctc_2                 132 none: ldi r16, 9 | out 0x33, r16 | ldi r16, 2 | out 0x31, r16 | again: | in r20, 0x32 | rjmp again
-ocr1ah_write                100 none: ldi r17, 1 | out 0x2E, r17 | again: | out 0x2B, r16 | rjmp again
+ocr1ah_write                 84 none: ldi r17, 1 | out 0x2E, r17 | again: | out 0x2B, r16 | rjmp again
 ocr0_halted                 152 none: again: | sts 0x51, r16 | rjmp again
 tccr0_halted                164 none: again: | sts 0x53, r20 | rjmp again
 udr0_read                    73 none: ldi r17, 0x18 | out 0x0A, r17 | again: | in r20, 0x0C | rjmp again
