@@ -51,9 +51,9 @@ pub record HasPassed (old new : RunAt) : Type 0 where
   pub span : IsSpan count
   pub at : new ≡ record old { floor = min (old.floor + count * epoch) old.scenario.topo.limit }
 
-pub record IsRun (sc : ScenarioOf) (floor last next : ℕ) (parts : Option Parts) : Type 0 where
+pub record IsRun (sc : ScenarioOf) (floor last span : ℕ) (parts : Option Parts) : Type 0 where
   pub scenario : IsScenario sc
   pub limit : last ≡ sc.topo.limit
   pub within : floor ≤ last
-  pub next : IsSpan next
+  pub next : IsSpan span
   pub tied : IfSome parts (IsTied sc floor floor)
