@@ -17,7 +17,7 @@ invariant_of-self-2 g c =
       scenario = c.self.invariant.scenario;
       limit = c.self.invariant.limit;
       within = omega arith;
-      next = c.next_span.ensures;
+      next = c.next_span-self-inside.ensures;
       tied = subst (λ (s : ScenarioOf). IsTied s c.min-end.result c.min-end.result c.in_ok-passed.passed.parts) same c.in_ok-passed.ensures.tied;
     }
 
