@@ -202,7 +202,7 @@ fn call_failing<R: Threads + Wait + Files + AllocGlobal + Sync, O: Sink>(
     out: &mut O,
 ) -> Result<(), Failed> {
     let last = AtomicU64::new(0);
-    write_call(rt, words, Some(fails), &LastTurn(&last), out)?;
+    write_end(rt, words, Some(fails), &LastTurn(&last), out)?;
     write_number("no turn may be told above", turn, out)?;
     write_seen("none was", last.load(Ordering::SeqCst) <= turn, out)
 }
@@ -245,7 +245,7 @@ fn call_on_one<R: Threads + Wait + Files + AllocGlobal + Sync, O: Sink>(
         turns: &turns,
         threads: &threads,
     };
-    write_end(rt, words.as_slice(), &gate, out)?;
+    write_end(rt, words.as_slice(), None, &gate, out)?;
     let seen = turns.load(Ordering::SeqCst) == 0 && threads.load(Ordering::SeqCst) == 0;
     write_seen("no node was on a thread of its own", seen, out)
 }
@@ -269,14 +269,17 @@ fn own_thread<R: Threads + Wait + Files + AllocGlobal + Sync, O: Sink>(
     rt: &R,
     out: &mut O,
 ) -> Result<(), Failed> {
-    write_line("# threads begun for two nodes, for eight, for one, and for two in seven spans", out)?;
+    write_line(
+        "# threads begun for two nodes, for eight, for one, and for two in seven spans",
+        out,
+    )?;
     for words in [&RUN, &MAKE, &LONG, &QUIET] {
         let (turns, threads) = (AtomicU64::new(0), AtomicU64::new(0));
         let gate = Counted {
             turns: &turns,
             threads: &threads,
         };
-        write_end(rt, words, &gate, out)?;
+        write_end(rt, words, None, &gate, out)?;
         write_number("threads", threads.load(Ordering::SeqCst), out)?;
     }
     Ok(())

@@ -162,10 +162,11 @@ pub fn write_call<R: Threads + Wait + Files + AllocGlobal + Sync, G: Gate + Sync
 pub fn write_end<R: Threads + Wait + Files + AllocGlobal + Sync, G: Gate + Sync, O: Sink>(
     rt: &R,
     words: &[&str],
+    fails: Option<u64>,
     gate: &G,
     out: &mut O,
 ) -> Result<(), Failed> {
-    let ended = call(rt, words, None, gate)?;
+    let ended = call(rt, words, fails, gate)?;
     write_number("status", u64::from(ended.status), out)?;
     write_number("bytes", ended.out.taken().len() as u64, out)?;
     Ok(write_all(out, ended.err.taken())?)
