@@ -32,14 +32,13 @@ impl<N: Session> Locked<N> {
     ghost use Rattle.std.specs.Prelude.{◌≡◌, ◌+◌, ◌≤◌, ◌<◌};
     ghost use Rattle.std.specs.List.{Contains};
     ghost use Rattle.world_core.specs.Sends.{IsSendNumber};
-    ghost use Rattle.world_core.specs.Kept.{epoch};
-    ghost use Rattle.neighbour_sync.specs.Record.{IsPost, IsSample};
+    ghost use Rattle.neighbour_sync.specs.Record.{longest_span, IsPost, IsSample};
     ghost use Rattle.neighbour_sync.specs.Told.{IsTold};
 
     fn post<W: World>(&mut self, clocks: &Clocks<W>, send: Send, number: u64) -> Posted
         requires table { clocks.now.table ≡ N.table }
         requires number { IsSendNumber N.world number send }
-        requires early { send.cycle < N.floor + epoch }
+        requires early { send.cycle < N.floor + longest_span }
         ensures { IsPost self.old send number result self.new }
     {
         self.air.post(clocks, send, number)
@@ -71,8 +70,7 @@ impl<W: World, N: Session> Shared<W, N> {
     ghost use Rattle.std.specs.Prelude.{◌≡◌, ◌+◌, ◌≤◌, ◌<◌};
     ghost use Rattle.std.specs.List.{Contains};
     ghost use Rattle.world_core.specs.Sends.{IsSendNumber};
-    ghost use Rattle.world_core.specs.Kept.{epoch};
-    ghost use Rattle.neighbour_sync.specs.Record.{IsSound};
+    ghost use Rattle.neighbour_sync.specs.Record.{longest_span, IsSound};
     ghost use Rattle.neighbour_sync.specs.Told.{IsTold};
     ghost use Rattle.neighbour_sync.specs.Parts.{AreParts};
 
@@ -114,7 +112,7 @@ impl<W: World, N: Session> Shared<W, N> {
     // Posts a send under the lock.
     pub(crate) fn post<R: Wait>(&self, rt: &R, send: Send, number: u64) -> Posted
         requires number { IsSendNumber N.world number send }
-        requires early { send.cycle < N.floor + epoch }
+        requires early { send.cycle < N.floor + longest_span }
     {
         self.lock.lock(rt).post(&self.clocks, send, number)
     }
