@@ -23,6 +23,8 @@ mod sweeps;
 mod threads;
 mod top;
 mod trace;
+mod watch;
+mod watching;
 
 pub use alone::avrora_alone;
 pub use command_plans::Status;

@@ -13,6 +13,7 @@ use crate::looks::{read_look, read_look_on, read_saved_on};
 use crate::network::lone_node;
 use crate::spans::read_span;
 use crate::sweeps::read_sweep;
+use crate::watch::Tail;
 use checkpoint_text::Saved;
 use command_plans::{
     Complaint, StateCause, Status, Trouble, read_image, read_images, read_scenario, read_source,
@@ -200,7 +201,7 @@ fn read_job<'w, S: Store, E: Sink>(
         }
         Command::Sweep { file, state, moves } => {
             let ((network, state), moves) = read_sweep(alloc, file, state, moves, store, err)?;
-            Ok(Job::Sweep(network, state, moves))
+            Ok(Job::Sweep(network, state, moves, Tail::Trace))
         }
     }
 }

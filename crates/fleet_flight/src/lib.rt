@@ -4,6 +4,7 @@
 #![tactic(auto)]
 
 mod begins;
+mod begun;
 mod flight;
 mod latency;
 mod order;
@@ -13,10 +14,11 @@ mod rows;
 mod shadow;
 mod turns;
 mod watch;
+mod watching;
 
 pub use begins::Begins;
 pub use order::{put_behind, sort};
 pub use record::{kept_sends, record_of};
 pub use rows::{pass_to, rows_to};
 pub use shadow::Shadow;
-pub use watch::watch_to;
+pub use watching::Watching;
