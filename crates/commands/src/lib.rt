@@ -24,6 +24,7 @@ mod threads;
 mod top;
 mod trace;
 mod watch;
+mod watches;
 mod watching;
 
 pub use alone::avrora_alone;
