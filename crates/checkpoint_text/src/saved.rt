@@ -19,7 +19,7 @@ ghost use Rattle.checkpoint_text.specs.State.{counts_fit, kept_of};
 use crate::onward::{InState, Onward};
 use air_base::{LAST_CYCLE, Send};
 use avr_base::NoMemory;
-use fleet_flight::{Watching, kept_sends, pass_to, record_of, rows_to};
+use fleet_flight::{WatchedRun, kept_sends, pass_to, record_of, rows_to};
 use node_core::{Node, Row};
 use node_places::Place;
 use node_runner::Scenario;
@@ -243,7 +243,7 @@ impl Saved {
         self,
         scenario: &'a Scenario,
         places: &[Place],
-    ) -> Result<Watching<Onward<'a>>, NoMemory>
+    ) -> Result<WatchedRun<Onward<'a>>, NoMemory>
         requires same { scenario.now ≡ self.scenario }
         requires sound { self.failed ≡ false }
         requires spots { All (λ p. IsSpot p.spot) places.now }
@@ -262,6 +262,6 @@ impl Saved {
             nodes,
             log,
         } = self;
-        Watching::new(alloc, Onward { scenario, state }, nodes, log, floor, places)
+        WatchedRun::new(alloc, Onward { scenario, state }, nodes, log, floor, places)
     }
 }

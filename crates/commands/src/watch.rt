@@ -2,6 +2,7 @@
 use node_places::Place;
 
 /// What of a run is watched: these places, in the cycles from `from` on and below `to`.
+#[derive(Drop)]
 pub struct Watch {
     pub from: u64,
     pub to: u64,
@@ -9,6 +10,7 @@ pub struct Watch {
 }
 
 /// What is written of each run of a sweep.
+#[derive(Drop)]
 pub enum Tail {
     /// Its trace.
     Trace,

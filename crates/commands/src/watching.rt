@@ -13,7 +13,7 @@ use crate::checkpoints::{go_on, run_up_to};
 use crate::watch::Watch;
 use checkpoint_text::Saved;
 use command_plans::Trouble;
-use fleet_flight::{Begins, Watching};
+use fleet_flight::{Begins, WatchedRun};
 use fleet_plain::PlainRun;
 use node_runner::Scenario;
 use sim_io::Sink;
@@ -21,8 +21,8 @@ use state_text::StateParts;
 use std::alloc::Global;
 
 // Writes what is seen of a run up to the cycle `to`, epoch by epoch, each before the next one is run.
-fn write_changes<'n, B: Begins, O: Sink>(
-    mut watching: Watching<B>,
+fn write_changes<'n, B: Begins + Drop, O: Sink>(
+    mut watching: WatchedRun<B>,
     to: u64,
     out: &mut O,
 ) -> Result<(), Trouble<'n>>

@@ -14,11 +14,11 @@ mod rows;
 mod shadow;
 mod turns;
 mod watch;
-mod watching;
+mod watched_run;
 
 pub use begins::Begins;
 pub use order::{put_behind, sort};
 pub use record::{kept_sends, record_of};
 pub use rows::{pass_to, rows_to};
 pub use shadow::Shadow;
-pub use watching::Watching;
+pub use watched_run::WatchedRun;

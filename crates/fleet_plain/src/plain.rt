@@ -16,7 +16,7 @@ ghost use Rattle.fleet_plain.specs.Run.{at_reset};
 use crate::begun::{AtReset, nodes_at_reset};
 use air_base::Send;
 use avr_base::NoMemory;
-use fleet_flight::{Watching, kept_sends, pass_to, record_of, rows_to};
+use fleet_flight::{WatchedRun, kept_sends, pass_to, record_of, rows_to};
 use node_core::{Node, Row};
 use node_places::Place;
 use node_runner::Scenario;
@@ -191,7 +191,7 @@ impl PlainRun {
         self,
         scenario: &'a Scenario,
         places: &[Place],
-    ) -> Result<Watching<AtReset<'a>>, NoMemory>
+    ) -> Result<WatchedRun<AtReset<'a>>, NoMemory>
         requires same { scenario.now ≡ self.scenario }
         requires sound { self.failed ≡ false }
         requires spots { All (λ p. IsSpot p.spot) places.now }
@@ -209,7 +209,7 @@ impl PlainRun {
             nodes,
             log,
         } = self;
-        Watching::new(alloc, AtReset { scenario }, nodes, log, floor, places)
+        WatchedRun::new(alloc, AtReset { scenario }, nodes, log, floor, places)
     }
 }
 

@@ -18,7 +18,7 @@ use world_core::{EPOCH, SendLog};
 
 /// A run of all nodes on one thread, of which some are watched from the cycle on in which it was begun. What is seen is
 /// given as the cycles are passed, and not kept.
-pub struct Watching<B: Begins> {
+pub struct WatchedRun<B: Begins> {
     pub alloc: Global,
     pub from: B,
     pub nodes: Vec<Node>,
@@ -29,9 +29,9 @@ pub struct Watching<B: Begins> {
 }
 
 // By hand, so that an exit that lets go of one, here and in the crates above, has one call to prove.
-impl<B: Begins> Drop for Watching<B> {
+impl<B: Begins + Drop> Drop for WatchedRun<B> {
     fn drop(self) {
-        let Watching {
+        let WatchedRun {
             alloc: _,
             from: _,
             nodes: _,
@@ -42,7 +42,7 @@ impl<B: Begins> Drop for Watching<B> {
     }
 }
 
-impl<B: Begins> Watching<B> {
+impl<B: Begins + Drop> WatchedRun<B> {
     /// A run whose nodes, with this record of sends, have reached the cycle `floor`, and are watched at these places from
     /// there on.
     pub fn new(
@@ -52,7 +52,7 @@ impl<B: Begins> Watching<B> {
         log: SendLog,
         floor: u64,
         places: &[Place],
-    ) -> Result<Watching<B>, NoMemory>
+    ) -> Result<WatchedRun<B>, NoMemory>
         requires paused { IsPaused (flown (B.origin from)) floor floor nodes.items log.sends }
         requires sized { AreSized (B.origin from) }
         requires spots { All (λ p. IsSpot p.spot) places.now }
@@ -62,7 +62,7 @@ impl<B: Begins> Watching<B> {
         ensures floor { IfOk result (λ w. w.floor ≡ floor) }
     {
         let shadows = shadows_of(alloc, &nodes, places)?;
-        Ok(Watching {
+        Ok(WatchedRun {
             alloc,
             from,
             nodes,
