@@ -1,5 +1,5 @@
 -- The forms of accepted words, told apart.
-use Rattle.std.proofs.Common.{◌≡◌, ℕ, arith, nat_le, ◌&&◌, if◌then◌else◌, Bool, true, false, option_map, List, Option, Some, None, [], ◌∷◌, codes, refl, sym}
+use Rattle.std.proofs.Common.{◌≡◌, ℕ, ◌≤◌, arith, nat_le, ◌&&◌, if◌then◌else◌, Bool, true, false, option_map, List, Option, Some, None, [], ◌∷◌, codes, refl, sym}
 use Rattle.std.proofs.lemmas.Bool.{and_parts}
 use Rattle.std.proofs.lemmas.Bool.Decides.{nat_tests}
 use Rattle.std.proofs.lemmas.Slice.Eq.{bytes_eq-Decides}

@@ -91,14 +91,14 @@ taken _ _ (IsWatch file from to places m n f g s) =
     let b = plain_file from (number_file 13 0 LAST_CYCLE from m s.from_is) in
     let c = plain_file to (number_file 13 0 LAST_CYCLE to n s.to_is) in
     let d = plain_file places g in
-    simp (a.short, a.long, b.short, b.long, c.short, c.long, d.short, d.long) (refl {a = true})
+    simp (a.short, a.long) (simp (b.short, b.long) (simp (c.short, c.long) (simp (d.short, d.long) (refl {a = true}))))
 taken _ _ (IsWatchOn file from to places state m n f g h s) =
     let a = plain_file file f in
     let b = plain_file from (number_file 13 0 LAST_CYCLE from m s.from_is) in
     let c = plain_file to (number_file 13 0 LAST_CYCLE to n s.to_is) in
     let d = plain_file places g in
     let e = plain_file state h in
-    simp (a.short, a.long, b.short, b.long, c.short, c.long, d.short, d.long, e.short, e.long) (refl {a = true})
+    simp (a.short, a.long) (simp (b.short, b.long) (simp (c.short, c.long) (simp (d.short, d.long) (simp (e.short, e.long) (refl {a = true})))))
 taken _ _ (IsWatchSweep file from to places state moves m n f g h i s) =
     let a = plain_file file f in
     let b = plain_file from (number_file 13 0 LAST_CYCLE from m s.from_is) in
@@ -106,7 +106,7 @@ taken _ _ (IsWatchSweep file from to places state moves m n f g h i s) =
     let d = plain_file places g in
     let e = plain_file state h in
     let j = plain_file moves i in
-    simp (a.short, a.long, b.short, b.long, c.short, c.long, d.short, d.long, e.short, e.long, j.short, j.long) (refl {a = true})
+    simp (a.short, a.long) (simp (b.short, b.long) (simp (c.short, c.long) (simp (d.short, d.long) (simp (e.short, e.long) (simp (j.short, j.long) (refl {a = true}))))))
 
 -- and its matches ask for what the words ask for
 pub kept : (words : List (List ℕ)) (asked : Asked) → Form words asked → asked_of (subcommand_of the_app words) ≡ Some asked
@@ -174,7 +174,7 @@ kept _ _ (IsWatch file from to places m n f g s) =
     let c = plain_file to (number_file 13 0 LAST_CYCLE to n s.to_is) in
     let d = plain_file places g in
     let asked : option_map (watched_in file places None None) (span_of from to) ≡ Some (Watch file m n places) = ap (option_map (watched_in file places None None)) (span_is from to m n s) in
-    simp (a.short, a.long, b.short, b.long, c.short, c.long, d.short, d.long) asked
+    simp (a.short, a.long) (simp (b.short, b.long) (simp (c.short, c.long) (simp (d.short, d.long) asked)))
 kept _ _ (IsWatchOn file from to places state m n f g h s) =
     let a = plain_file file f in
     let b = plain_file from (number_file 13 0 LAST_CYCLE from m s.from_is) in
@@ -182,7 +182,7 @@ kept _ _ (IsWatchOn file from to places state m n f g h s) =
     let d = plain_file places g in
     let e = plain_file state h in
     let asked : option_map (watched_in file places (Some state) None) (span_of from to) ≡ Some (WatchOn file m n places state) = ap (option_map (watched_in file places (Some state) None)) (span_is from to m n s) in
-    simp (a.short, a.long, b.short, b.long, c.short, c.long, d.short, d.long, e.short, e.long) asked
+    simp (a.short, a.long) (simp (b.short, b.long) (simp (c.short, c.long) (simp (d.short, d.long) (simp (e.short, e.long) asked))))
 kept _ _ (IsWatchSweep file from to places state moves m n f g h i s) =
     let a = plain_file file f in
     let b = plain_file from (number_file 13 0 LAST_CYCLE from m s.from_is) in
@@ -192,7 +192,7 @@ kept _ _ (IsWatchSweep file from to places state moves m n f g h i s) =
     let j = plain_file moves i in
     let asked : option_map (watched_in file places (Some state) (Some moves)) (span_of from to) ≡ Some (WatchSweep file m n places state moves) =
     ap (option_map (watched_in file places (Some state) (Some moves))) (span_is from to m n s) in
-    simp (a.short, a.long, b.short, b.long, c.short, c.long, d.short, d.long, e.short, e.long, j.short, j.long) asked
+    simp (a.short, a.long) (simp (b.short, b.long) (simp (c.short, c.long) (simp (d.short, d.long) (simp (e.short, e.long) (simp (j.short, j.long) asked)))))
 
 some_of : (o : Option Asked) → is_some o ≡ true → (asked : Asked) × (o ≡ Some asked)
 some_of None h = absurd (cc)
