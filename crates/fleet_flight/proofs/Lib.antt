@@ -28,3 +28,5 @@ pub mod Watching
 pub mod Sizes
 -- The shadows with which the nodes of a run are watched from the cycle on that they have reached.
 pub mod Shadowed
+-- What is seen in spans that are joined, and a byte behind the changes that are seen of it.
+pub mod Seen

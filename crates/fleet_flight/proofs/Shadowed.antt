@@ -3,7 +3,7 @@ use Rattle.std.proofs.Common.{◌≡◌, ℕ, ◌+◌, ◌<◌, ◌≤◌, List,
 use Rattle.std.specs.Prelude.{slice_index_or}
 use Rattle.std.specs.List.{All}
 use Rattle.std.proofs.lemmas.List.{map-append}
-use Rattle.std.proofs.lemmas.List.Elements.{All-nil, All-push}
+use Rattle.std.proofs.lemmas.List.Elements.{All-nil}
 use Rattle.air_base.specs.NodeRun.{Timed}
 use Rattle.air_base.specs.declared.air.Send.{Send}
 use Rattle.node_core.specs.State.{NodeState}
@@ -12,7 +12,7 @@ use Rattle.node_places.specs.declared.Place.{Place}
 use Rattle.world_core.proofs.Alone.{rows_none}
 use Rattle.fleet_flight.specs.Origin.{Origin, flown}
 use Rattle.fleet_flight.specs.Paused.{AtRest, IsPaused}
-use Rattle.fleet_flight.specs.Shadows.{AreSized, IsBehind, IsNew, IsShadow, IsStill, group_of, groups_of}
+use Rattle.fleet_flight.specs.Shadows.{AreSized, IsBehind, IsNew, IsStill, group_of, groups_of}
 use Rattle.fleet_flight.specs.Watched.{Group, group_with, groups_in, places_of}
 use Rattle.fleet_flight.specs.declared.shadow.Shadow.{Shadow}
 use Rattle.fleet_flight.proofs.EachNode.{one_more}

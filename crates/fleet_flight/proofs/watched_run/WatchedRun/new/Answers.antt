@@ -1,4 +1,4 @@
-use Rattle.std.proofs.Common.{◌≡◌, ◌≤◌, length, sym, subst, ap, ◌∙◌, arith}
+use Rattle.std.proofs.Common.{length, sym, subst, ap, ◌∙◌, arith}
 use Rattle.std.specs.Prelude.{List}
 use Rattle.std.specs.List.{All}
 use Rattle.air_base.specs.NodeRun.{Timed}
@@ -6,7 +6,6 @@ use Rattle.node_core.specs.State.{NodeState}
 use Rattle.node_core.specs.declared.row.Row.{Row}
 use Rattle.fleet_flight.specs.Origin.{Origin}
 use Rattle.fleet_flight.specs.Shadows.{IsNew, IsStill}
-use Rattle.fleet_flight.specs.Watched.{groups_in}
 use Rattle.fleet_flight.proofs.Shadowed.{all_behind, all_still}
 use Rattle.fleet_flight.proofs.watched_run.WatchedRun.new.Goals as goal
 
