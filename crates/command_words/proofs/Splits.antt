@@ -5,11 +5,11 @@ use Rattle.std.specs.Str.{bytes_eq}
 use Rattle.clap.specs.Lexer.{strip_byte}
 use Rattle.clap.specs.Words.{subcommand_of, takes}
 use Rattle.clap.proofs.OnLiterals.{clap_on_literals}
-use Rattle.command_words.specs.Words.{Asked, Node, Run, RunPlain, Monitor, Sniff, Check, Disasm, Asm, Make, Head, Save, Resume, HeadOn, SaveOn, MonitorSpan, Sweep, Look, LookOn, asked_by, bound_of, epochs_of, is_file, span_of}
+use Rattle.command_words.specs.Words.{Asked, Node, Run, RunPlain, Monitor, Sniff, Check, Disasm, Asm, Make, Head, Save, Resume, HeadOn, SaveOn, MonitorSpan, Sweep, Look, LookOn, Watch, WatchOn, WatchSweep, asked_by, bound_of, epochs_of, is_file, span_of}
 use Rattle.command_words.specs.Apps.{the_app}
-use Rattle.command_words.specs.Split.{asked_in, asked_of, cut_in, from_in, read_in, watch_in, within_in}
+use Rattle.command_words.specs.Split.{asked_in, asked_of, cut_in, from_in, read_in, seeing_in, watched_in, within_in}
 use Rattle.command_words.proofs.Numerals.{number_file}
-use Rattle.command_words.proofs.Forms.{Form, Span, IsNode, IsRun, IsPlainRun, IsMonitor, IsSniff, IsCheck, IsDisasm, IsAsm, IsMake, IsHead, IsSave, IsResume, IsHeadOn, IsSaveOn, IsMonitorSpan, IsSweep, IsLook, IsLookOn, form_of}
+use Rattle.command_words.proofs.Forms.{Form, Span, IsNode, IsRun, IsPlainRun, IsMonitor, IsSniff, IsCheck, IsDisasm, IsAsm, IsMake, IsHead, IsSave, IsResume, IsHeadOn, IsSaveOn, IsMonitorSpan, IsSweep, IsLook, IsLookOn, IsWatch, IsWatchOn, IsWatchSweep, form_of}
 
 -- a word that `clap` takes for a value
 record Plain (word : List ℕ) : Type 0 where
@@ -86,10 +86,31 @@ taken _ _ (IsLookOn file cycle state n f e g) =
     let b = plain_file cycle (number_file 13 0 LAST_CYCLE cycle n e) in
     let c = plain_file state g in
     simp (a.short, a.long, b.short, b.long, c.short, c.long) (refl {a = true})
+taken _ _ (IsWatch file from to places m n f g s) =
+    let a = plain_file file f in
+    let b = plain_file from (number_file 13 0 LAST_CYCLE from m s.from_is) in
+    let c = plain_file to (number_file 13 0 LAST_CYCLE to n s.to_is) in
+    let d = plain_file places g in
+    simp (a.short, a.long) (simp (b.short, b.long) (simp (c.short, c.long) (simp (d.short, d.long) (refl {a = true}))))
+taken _ _ (IsWatchOn file from to places state m n f g h s) =
+    let a = plain_file file f in
+    let b = plain_file from (number_file 13 0 LAST_CYCLE from m s.from_is) in
+    let c = plain_file to (number_file 13 0 LAST_CYCLE to n s.to_is) in
+    let d = plain_file places g in
+    let e = plain_file state h in
+    simp (a.short, a.long) (simp (b.short, b.long) (simp (c.short, c.long) (simp (d.short, d.long) (simp (e.short, e.long) (refl {a = true})))))
+taken _ _ (IsWatchSweep file from to places state moves m n f g h i s) =
+    let a = plain_file file f in
+    let b = plain_file from (number_file 13 0 LAST_CYCLE from m s.from_is) in
+    let c = plain_file to (number_file 13 0 LAST_CYCLE to n s.to_is) in
+    let d = plain_file places g in
+    let e = plain_file state h in
+    let j = plain_file moves i in
+    simp (a.short, a.long) (simp (b.short, b.long) (simp (c.short, c.long) (simp (d.short, d.long) (simp (e.short, e.long) (simp (j.short, j.long) (refl {a = true}))))))
 
 -- and its matches ask for what the words ask for
 pub kept : (words : List (List ℕ)) (asked : Asked) → Form words asked → asked_of (subcommand_of the_app words) ≡ Some asked
-unfolding clap_on_literals asked_of asked_in watch_in read_in cut_in
+unfolding clap_on_literals asked_of asked_in seeing_in read_in cut_in
 kept _ _ (IsNode file cycles n f e) =
     let a = plain_file file f in
     let b = plain_file cycles (number_file 8 1 10000000 cycles n e) in
@@ -147,6 +168,31 @@ kept _ _ (IsLookOn file cycle state n f e g) =
     let c = plain_file state g in
     let asked : option_map (from_in Look LookOn file (Some state)) (bound_of cycle) ≡ Some (LookOn file n state) = ap (option_map (from_in Look LookOn file (Some state))) e in
     simp (a.short, a.long, b.short, b.long, c.short, c.long) asked
+kept _ _ (IsWatch file from to places m n f g s) =
+    let a = plain_file file f in
+    let b = plain_file from (number_file 13 0 LAST_CYCLE from m s.from_is) in
+    let c = plain_file to (number_file 13 0 LAST_CYCLE to n s.to_is) in
+    let d = plain_file places g in
+    let asked : option_map (watched_in file places None None) (span_of from to) ≡ Some (Watch file m n places) = ap (option_map (watched_in file places None None)) (span_is from to m n s) in
+    simp (a.short, a.long) (simp (b.short, b.long) (simp (c.short, c.long) (simp (d.short, d.long) asked)))
+kept _ _ (IsWatchOn file from to places state m n f g h s) =
+    let a = plain_file file f in
+    let b = plain_file from (number_file 13 0 LAST_CYCLE from m s.from_is) in
+    let c = plain_file to (number_file 13 0 LAST_CYCLE to n s.to_is) in
+    let d = plain_file places g in
+    let e = plain_file state h in
+    let asked : option_map (watched_in file places (Some state) None) (span_of from to) ≡ Some (WatchOn file m n places state) = ap (option_map (watched_in file places (Some state) None)) (span_is from to m n s) in
+    simp (a.short, a.long) (simp (b.short, b.long) (simp (c.short, c.long) (simp (d.short, d.long) (simp (e.short, e.long) asked))))
+kept _ _ (IsWatchSweep file from to places state moves m n f g h i s) =
+    let a = plain_file file f in
+    let b = plain_file from (number_file 13 0 LAST_CYCLE from m s.from_is) in
+    let c = plain_file to (number_file 13 0 LAST_CYCLE to n s.to_is) in
+    let d = plain_file places g in
+    let e = plain_file state h in
+    let j = plain_file moves i in
+    let asked : option_map (watched_in file places (Some state) (Some moves)) (span_of from to) ≡ Some (WatchSweep file m n places state moves) =
+    ap (option_map (watched_in file places (Some state) (Some moves))) (span_is from to m n s) in
+    simp (a.short, a.long) (simp (b.short, b.long) (simp (c.short, c.long) (simp (d.short, d.long) (simp (e.short, e.long) (simp (j.short, j.long) asked)))))
 
 some_of : (o : Option Asked) → is_some o ≡ true → (asked : Asked) × (o ≡ Some asked)
 some_of None h = absurd (cc)

@@ -90,7 +90,7 @@ fn watched<'w>(
     state: Option<&'w str>,
     moves: Option<&'w str>,
 ) -> Command<'w>
-    ensures { shown result ≡ watched_in file.now places.now (option_map (λ s. s.now) state) (option_map (λ s. s.now) moves) (from, to) }
+    ensures { shown result ≡ watched_in file.now places.now (option_map (λ s. s.now) state.entry) (option_map (λ s. s.now) moves.entry) (from, to) }
 {
     match state {
         None => Command::Watch {

@@ -121,14 +121,17 @@ abbrev pub watch_plan : List ℕ → ℕ → List ℕ → Plan (ScenarioOf × Li
 watch_plan file to name =
     and_then (up_to_plan file to) (λ network. and_then (places_plan network.topo.nodes name) (λ places. Give (network, places)))
 
--- from a state on a run can be watched as the state's cycle begins, and later
-abbrev pub watch_from_or : List ℕ → ℕ → ScenarioOf × List Place → StateOf → Plan ((ScenarioOf × List Place) × StateOf)
-watch_from_or name from it state = if nat_lt from state.cycle then Refuse (BadState name cause.PastCycle) else Give (it, state)
+-- and then a state of the network
+abbrev pub watch_begun_plan : List ℕ → ℕ → List ℕ → List ℕ → Plan ((ScenarioOf × List Place) × StateOf)
+watch_begun_plan file to places name = and_then (watch_plan file to places) (λ it. and_then (state_plan it.0 name) (λ state. Give (it, state)))
 
--- and then a state of the network, from which it is to be watched from this cycle on
+-- from a state on a run can be watched as the state's cycle begins, and later
+abbrev pub watch_from_or : List ℕ → ℕ → (ScenarioOf × List Place) × StateOf → Plan ((ScenarioOf × List Place) × StateOf)
+watch_from_or name from it = if nat_lt from it.1.cycle then Refuse (BadState name cause.PastCycle) else Give it
+
+-- and the run is to be watched from this cycle on
 abbrev pub watch_on_plan : List ℕ → ℕ → ℕ → List ℕ → List ℕ → Plan ((ScenarioOf × List Place) × StateOf)
-watch_on_plan file from to places name =
-    and_then (watch_plan file to places) (λ it. and_then (state_plan it.0 name) (watch_from_or name from it))
+watch_on_plan file from to places name = and_then (watch_begun_plan file to places name) (watch_from_or name from)
 
 -- and then the moves of the runs that go on from the state
 abbrev pub watch_sweep_plan : List ℕ → ℕ → ℕ → List ℕ → List ℕ → List ℕ → Plan (((ScenarioOf × List Place) × StateOf) × List MoveOf)

@@ -1,10 +1,11 @@
 // What is read for `watch`.
 ghost use Rattle.std.specs.Prelude.{◌≡◌, ◌≤◌, IfErr, IfOk};
+ghost use Rattle.checkpoint_text.specs.Onward.{CanResume};
 ghost use Rattle.command_plans.specs.Ends.{reads, stream};
 ghost use Rattle.command_plans.specs.Parts.{Stopped};
 ghost use Rattle.commands.specs.Parts.{HasGot, IsTailed, IsWatch, IsWatchOn};
 ghost use Rattle.commands.specs.declared.watch.Tail.TheVariants as tail;
-ghost use Rattle.commands.specs.Plan.{up_to_plan, watch_on_plan, watch_plan, watch_sweep_plan};
+ghost use Rattle.commands.specs.Plan.{up_to_plan, watch_begun_plan, watch_on_plan, watch_plan, watch_sweep_plan};
 
 use crate::checkpoints::read_state_parts;
 use crate::watch::Watch;
@@ -89,6 +90,40 @@ pub fn read_watch<'w, S: Store, E: Sink>(
     }
 }
 
+// What `read_watch` reads, and then the state of the network in the file `state`. Where that is not to be had, `err` has
+// the line that says why, and the answer is the status of the call.
+fn read_watch_begun<'w, S: Store, E: Sink>(
+    alloc: Global,
+    file: &'w str,
+    from: u64,
+    to: u64,
+    places: &'w str,
+    state: &'w str,
+    store: &mut S,
+    err: &mut E,
+) -> Result<((Scenario, Watch), StateParts), Status>
+    requires rises { from ≤ to }
+    ensures held { S.held store.new ≡ S.held store.old }
+    ensures ok { IfOk result (λ it. HasGot (S.held store.old) (watch_begun_plan file.entry.now to places.entry.now state.entry.now)
+        (reads (S.faults store.old) (S.failed store.old)) (reads (S.faults store.new) (S.failed store.new))
+        (stream (E.taken err.old) (E.faults err.old)) (stream (E.taken err.new) (E.faults err.new)) ((it.0.0, it.0.1.places.items), it.1)) }
+    ensures fit { IfOk result (λ it. CanResume it.0.0 it.1) }
+    ensures watch { IfOk result (λ it. IsWatch it.0.0 it.0.1) }
+    ensures span { IfOk result (λ it. (it.0.1.from, it.0.1.to) ≡ (from, to)) }
+    ensures err { IfErr result (Stopped (S.held store.old) (watch_begun_plan file.entry.now to places.entry.now state.entry.now)
+        (reads (S.faults store.old) (S.failed store.old)) (reads (S.faults store.new) (S.failed store.new))
+        (stream (E.taken err.old) (E.faults err.old)) (stream (E.taken err.new) (E.faults err.new))) }
+{
+    let it = match read_watch(alloc, file, from, to, places, store, err) {
+        Ok(it) => it,
+        Err(status) => return Err(status),
+    };
+    match read_state_parts(alloc, &it.0, state, store) {
+        Ok(parts) => Ok((it, parts)),
+        Err(trouble) => Err(tell(err, trouble)),
+    }
+}
+
 /// What [`read_watch`] reads, and then the state of the network in the file `state`, from which it is to be watched; the
 /// cycle `from` is none before the state's. Where that is not to be had, `err` has the line that says why, and the answer
 /// is the status of the call.
@@ -113,19 +148,15 @@ pub fn read_watch_on<'w, S: Store, E: Sink>(
         (reads (S.faults store.old) (S.failed store.old)) (reads (S.faults store.new) (S.failed store.new))
         (stream (E.taken err.old) (E.faults err.old)) (stream (E.taken err.new) (E.faults err.new))) }
 {
-    let begun = match read_watch(alloc, file, from, to, places, store, err) {
+    let begun = match read_watch_begun(alloc, file, from, to, places, state, store, err) {
         Ok(begun) => begun,
         Err(status) => return Err(status),
     };
-    let parts = match read_state_parts(alloc, &begun.0, state, store) {
-        Ok(parts) => parts,
-        Err(trouble) => return Err(tell(err, trouble)),
-    };
-    if from < parts.cycle {
+    if from < begun.1.cycle {
         let past_cycle = StateCause::PastCycle;
         return Err(tell(err, Trouble::Refused(Complaint::BadState(state, past_cycle))));
     }
-    Ok((begun, parts))
+    Ok(begun)
 }
 
 /// What [`read_watch_on`] reads, and then the moves in the file `moves`, for the runs that go on from the state and are to

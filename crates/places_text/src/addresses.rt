@@ -2,7 +2,7 @@
 ghost use Rattle.std.specs.Prelude.{◌≡◌, ◌≤◌, ◌&&◌, nat_le, IfSome, true};
 ghost use Rattle.std.specs.List.{list_any};
 ghost use Rattle.data_space.specs.declared.regions.TheConstants.{SRAM_LAST};
-ghost use Rattle.places_text.specs.Addresses.{address_of, digit_of, is_byte, is_within};
+ghost use Rattle.places_text.specs.Addresses.{address_of, digit_of, is_byte, is_core, is_within};
 
 use data_space::{SRAM_LAST, SRAM_START};
 
@@ -39,6 +39,13 @@ fn is_among(address: u16, stretches: &[(u16, u16)]) -> bool
         .any(|stretch| stretch.0 <= address && address <= stretch.1)
 }
 
+// Whether the byte at a data address is the core's: a general register, SP or SREG.
+fn is_core(address: u16) -> bool
+    ensures { result ≡ is_core address }
+{
+    (address < 0x20) | ((address >= 0x5D) & (address <= 0x5F))
+}
+
 /// Whether a byte that can be watched stands at a data address.
 #[tactic(auto, unfolding(crate::specs::Addresses::is_byte))]
 pub fn is_byte(address: u16) -> bool
@@ -48,7 +55,10 @@ pub fn is_byte(address: u16) -> bool
     if address >= SRAM_START {
         return address <= SRAM_LAST;
     }
-    address < 0x20 || (address >= 0x5D && address <= 0x5F) || is_among(address, &KEPT)
+    if is_core(address) {
+        return true;
+    }
+    is_among(address, &KEPT)
 }
 
 // What an upper-case hexadecimal digit is.
