@@ -247,9 +247,10 @@ impl Saved {
         requires same { scenario.now ≡ self.scenario }
         requires sound { self.failed ≡ false }
         requires spots { All (λ p. IsSpot p.spot) places.now }
-        ensures watching { IfOk result (λ w. IsWatching (origin_of scenario.now self.state) self.floor w.nodes.items w.log.sends w.shadows.items) }
+        ensures watching { IfOk result (λ w. IsWatching (origin_of w.from.scenario.now w.from.state.value) w.floor w.nodes.items w.log.sends w.shadows.items) }
         ensures groups { IfOk result (λ w. groups_of w.shadows.items ≡ groups_in scenario.now.topo.nodes places.now) }
-        ensures from { IfOk result (λ w. origin_of w.from.scenario.now w.from.state.value ≡ origin_of scenario.now self.state) }
+        ensures scenario { IfOk result (λ w. w.from.scenario.now ≡ scenario.now) }
+        ensures state { IfOk result (λ w. w.from.state.value ≡ self.state) }
         ensures floor { IfOk result (λ w. w.floor ≡ self.floor) }
     {
         let Saved {

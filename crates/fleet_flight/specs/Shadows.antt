@@ -100,6 +100,6 @@ abbrev pub AreSized : Origin → Type 0
 AreSized o = (k : ℕ) → k < o.topo.nodes → length (o.states k).sram ≡ SRAM_LEN
 
 -- a run at cycle c whose nodes are watched
-pub record IsWatching (o : Origin) (c : ℕ) (vs : List (Timed NodeState Row)) (xs : List Send) (shadows : List Shadow) : Type 0 where
+pub record IsWatching (o : Origin) (c : ℕ) (vs : List (Timed NodeState Row)) (xs : List Send) (watching : List Shadow) : Type 0 where
   pub paused : IsPaused (flown o) c c vs xs
-  pub shadows : All (IsBehind (flown o) c) shadows
+  pub shadows : All (IsBehind (flown o) c) watching

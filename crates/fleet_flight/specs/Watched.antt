@@ -86,3 +86,19 @@ group_with k (p ∷ ps) = record { node = k; places = p ∷ ps } ∷ []
 -- of the first n nodes those that have places among these, in order of number, each with its own
 abbrev pub groups_in : ℕ → List Place → List Group
 groups_in n ps = each_below n (λ k. group_with k (places_of k ps))
+
+-- ---- changes put in
+
+-- a byte at a data address that was this one, behind what is seen
+abbrev pub byte_behind : Seen → ℕ → ℕ → ℕ
+byte_behind (seen.Byte address byte) at was = if address == at then byte else was
+byte_behind (seen.At address) at was = was
+
+-- and of node k, behind a change
+abbrev pub put_one : ℕ → ℕ → Change → ℕ → ℕ
+put_one k at c was = if c.node == k then byte_behind c.seen at was else was
+
+-- behind one change after another
+unfoldable pub put_in : ℕ → ℕ → List Change → ℕ → ℕ
+put_in k at [] was = was
+put_in k at (c ∷ cs) was = put_in k at cs (put_one k at c was)

@@ -6,6 +6,7 @@
 mod begins;
 mod begun;
 mod flight;
+mod law;
 mod latency;
 mod order;
 mod places;
@@ -17,6 +18,7 @@ mod watch;
 mod watched_run;
 
 pub use begins::Begins;
+pub use law::{changes_law, joined_law};
 pub use order::{put_behind, sort};
 pub use record::{kept_sends, record_of};
 pub use rows::{pass_to, rows_to};

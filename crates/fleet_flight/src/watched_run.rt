@@ -61,6 +61,8 @@ impl<B: Begins + Drop> WatchedRun<B> {
         ensures from { IfOk result (λ w. w.from ≡ from) }
         ensures floor { IfOk result (λ w. w.floor ≡ floor) }
     {
+        // The call's clause says that the topology is one (`IsTopology`), so that nodes are few.
+        let _lawful = from.topo();
         let shadows = shadows_of(alloc, &nodes, places)?;
         Ok(WatchedRun {
             alloc,
@@ -84,7 +86,7 @@ impl<B: Begins + Drop> WatchedRun<B> {
         ensures groups { OnOk result (groups_of self.new.shadows.items ≡ groups_of self.old.shadows.items) }
         ensures from { OnOk result (self.new.from ≡ self.old.from) }
     {
-        let next = (self.floor + EPOCH).min(end);
+        let next = self.floor + (end - self.floor).min(EPOCH);
         let changes = watch_to(
             self.alloc,
             &self.from,

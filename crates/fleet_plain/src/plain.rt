@@ -195,9 +195,9 @@ impl PlainRun {
         requires same { scenario.now ≡ self.scenario }
         requires sound { self.failed ≡ false }
         requires spots { All (λ p. IsSpot p.spot) places.now }
-        ensures watching { IfOk result (λ w. IsWatching (at_reset scenario.now) self.floor w.nodes.items w.log.sends w.shadows.items) }
+        ensures watching { IfOk result (λ w. IsWatching (at_reset w.from.scenario.now) w.floor w.nodes.items w.log.sends w.shadows.items) }
         ensures groups { IfOk result (λ w. groups_of w.shadows.items ≡ groups_in scenario.now.topo.nodes places.now) }
-        ensures from { IfOk result (λ w. at_reset w.from.scenario.now ≡ at_reset scenario.now) }
+        ensures scenario { IfOk result (λ w. w.from.scenario.now ≡ scenario.now) }
         ensures floor { IfOk result (λ w. w.floor ≡ self.floor) }
     {
         let PlainRun {
