@@ -16,3 +16,5 @@ pub mod Onwards
 pub mod Coming
 -- What is read for a sweep, and the runs that it writes one behind another.
 pub mod SweepRuns
+-- What is read for `watch`: places that are watched, and a state from which they are.
+pub mod Watches
