@@ -18,6 +18,5 @@ pub mod Coming
 pub mod SweepRuns
 -- What is read for `watch`: places that are watched, and a state from which they are.
 pub mod Placed
-pub mod Watches
 -- What is seen of a run, written piece by piece.
 pub mod Changing
