@@ -1,12 +1,13 @@
 // `sweep`, and `watch` over moves: many runs of one network from one state on, each with another input at a node.
 ghost use Rattle.std.specs.Prelude.{◌≡◌, ◌<◌, IfErr, IfOk};
-ghost use Rattle.checkpoint_text.specs.Onward.{CanResume};
+ghost use Rattle.checkpoint_text.specs.Onward.{CanResume, onward};
 ghost use Rattle.command_plans.specs.Ends.{reads, stream};
 ghost use Rattle.command_plans.specs.Parts.{Stopped, Written};
 ghost use Rattle.commands.specs.Parts.{HasGot, IsSweep, IsTail, IsTailed};
 ghost use Rattle.commands.specs.Plan.{begun_plan, sweep_plan};
 ghost use Rattle.commands.specs.Tails.{moved_text, tail_text, tails_text};
-ghost use Rattle.commands.specs.Texts.{resume_text};
+ghost use Rattle.trace_writer.specs.Line.{rows_text};
+ghost use Rattle.world_core.specs.Order.{run_rows};
 
 use crate::checkpoints::{read_state_parts, write_onward};
 use crate::reading::read_network;
@@ -80,14 +81,14 @@ pub fn read_sweep<'w, S: Store, E: Sink>(
 }
 
 // Goes on with a network from a state up to the limit, and writes the rows of each epoch before the next one is run.
-fn write_rest<'n, O: Sink>(
+fn write_from<'n, O: Sink>(
     alloc: Global,
     network: &Scenario,
     state: &StateParts,
     out: &mut O,
 ) -> Result<(), Trouble<'n>>
     requires { CanResume network.now state.now }
-    ensures { Written (resume_text network.now state.now) (stream (O.taken out.old) (O.faults out.old)) (stream (O.taken out.new) (O.faults out.new)) result }
+    ensures { Written (rows_text (run_rows (onward network.now state.now))) (stream (O.taken out.old) (O.faults out.old)) (stream (O.taken out.new) (O.faults out.new)) result }
 {
     match Saved::new(alloc, network, state) {
         Ok(saved) => write_onward(network, saved, out),
@@ -108,7 +109,7 @@ fn write_tail<'n, O: Sink>(
     ensures { Written (tail_text tail.now network.now state.now) (stream (O.taken out.old) (O.faults out.old)) (stream (O.taken out.new) (O.faults out.new)) result }
 {
     match tail {
-        Tail::Trace => write_rest(alloc, network, state, out),
+        Tail::Trace => write_from(alloc, network, state, out),
         Tail::Watch(watch) => write_watch_on(alloc, network, state, watch, out),
     }
 }

@@ -5,7 +5,7 @@ use Rattle.command_plans.specs.declared.trouble.StateCause.TheVariants.{PastCycl
 use Rattle.command_plans.proofs.Steps.{stopped_behind}
 use Rattle.commands.specs.Plan.{watch_begun_plan, watch_from_or}
 use Rattle.commands.proofs.Coming.{then_got, then_stopped}
-use Rattle.commands.proofs.Watches.{watch_gives, watch_too_early}
+use Rattle.commands.proofs.Placed.{watch_gives, watch_too_early}
 use Rattle.commands.proofs.watches.read_watch_on.Goals as goal
 
 pub returns-in-Err-clause-err : goal.returns-in-Err-clause-err
