@@ -266,11 +266,18 @@ class Drawn(NamedTuple):
     images: dict[str, str]
 
 
-def drawn(number: int) -> Drawn:
+class Drawing(NamedTuple):
+    """A kind of drawn images: its name, and what draws one."""
+
+    name: str
+    image: Callable[[random.Random], Words]
+
+
+def drawn(drawing: Drawing, number: int) -> Drawn:
     """The drawn network with this number."""
-    rng = random.Random(f"loops {number}")
+    rng = random.Random(f"{drawing.name} {number}")
     limit = rng.randrange(400, 1_600)
-    images = {f"{k}.hex": hex_text(image(rng)) for k in range(NODES)}
+    images = {f"{k}.hex": hex_text(drawing.image(rng)) for k in range(NODES)}
     latency = rng.choice((rng.randrange(1, 100), rng.randrange(1, 3_000), 65_535))
     lines = [f"cycles = {limit}", f"latency = {latency}"]
     lines += [f'[[node]]\nimage = "{name}"' for name in images]
@@ -326,9 +333,9 @@ def count_of(rows: Rows, counts: Counter[str]) -> None:
         last[node] = [last[node][1], text]
 
 
-def compared(number: int, folder: Path, program: str, counts: Counter[str]) -> bool:
+def compared(drawing: Drawing, number: int, folder: Path, program: str, counts: Counter[str]) -> bool:
     """Whether all traces of the network with this number are as they are to be."""
-    it = drawn(number)
+    it = drawn(drawing, number)
     folder.mkdir()
     for name, text in it.images.items():
         (folder / name).write_text(text)
@@ -352,17 +359,18 @@ def compared(number: int, folder: Path, program: str, counts: Counter[str]) -> b
     return True
 
 
-def main() -> None:
+def main(words: str | None, drawing: Drawing) -> None:
+    """Compares as the words say, over images of this kind."""
     if len(sys.argv) < 2:
-        sys.exit(__doc__)
+        sys.exit(words)
     program = str(Path(sys.argv[1]).resolve())
     count, first = (int(given) for given in (sys.argv[2:] + ["100", "0"][len(sys.argv) - 2 :])[:2])
-    top = Path(tempfile.mkdtemp(prefix="loops."))
+    top = Path(tempfile.mkdtemp(prefix=f"{drawing.name}."))
     counts: Counter[str] = Counter()
     different = 0
     for number in range(first, first + count):
         folder = top / f"{number}"
-        if compared(number, folder, program, counts):
+        if compared(drawing, number, folder, program, counts):
             shutil.rmtree(folder)
         else:
             different += 1
@@ -377,4 +385,4 @@ def main() -> None:
 if __name__ == "__main__":
     if sys.argv[1:2] in (["--help"], ["-h"]):
         sys.exit(print(__doc__))
-    main()
+    main(__doc__, Drawing("loops", image))

@@ -11,7 +11,7 @@ use Rattle.board_io.specs.declared.rules.Rule.{Rule}
 use Rattle.board_io.specs.declared.rules.Rule.TheVariants.{Reserved, Pin, Kept, Guarded, WatchdogControl, ResetFlags, CpuControl, TimerFlags, ExtendedTimerFlags, Timer0, Timer1, Timer2, Timer3, Usart0, Spi}
 use Rattle.board_io.specs.Board.{clocked, kept_at, with_kept}
 use Rattle.board_io.specs.Cycle.{board_quiet, timers_leap}
-use Rattle.board_io.specs.Lagging.{IsAhead, caught_up, is_no_mask, is_plain_read, is_plain_write}
+use Rattle.board_io.specs.Lagging.{IsAhead, caught_up, is_high, is_no_mask, is_plain_read, is_plain_write}
 use Rattle.board_io.specs.Lines.{lines_of}
 use Rattle.board_io.specs.Names.{ETIMSK, IVSEL, SRE, TIMSK, WDCE, WDE}
 use Rattle.board_io.specs.Registers.{IsGot, IsPut, extended_timer_flags, get_by, get_in, got_in, put_by, put_in, timer_flags}
@@ -32,6 +32,8 @@ use Rattle.serial_ports.specs.declared.usart_receive_buffer.ReceiveBuffer.{Recei
 use Rattle.serial_ports.specs.declared.usart_receive_buffer.ReceiveBuffer.TheVariants.{Empty, One, Two}
 use Rattle.device_base.specs.Names.{RXCIE0}
 use Rattle.avr_timers.specs.declared.registers16.Reg16.{Reg16}
+use Rattle.avr_timers.specs.declared.registers16.Reg16.TheVariants as high
+use Rattle.avr_timers.proofs.Later16.{temp_cycles}
 use Rattle.avr_timers.specs.declared.registers8.Reg8.{Reg8}
 use Rattle.avr_timers.specs.Registers16 as reg16s
 use Rattle.avr_timers.specs.Registers8 as reg8
@@ -253,6 +255,29 @@ kept_apart : (b : Board) (at y s n : ℕ) → is_no_mask at ≡ true → PutApar
 unfolding timers_leap
 kept_apart b at y s n e = (refl, like_kept at y b e)
 
+-- a high byte of a timer of sixteen bits: TEMP alone
+temp_1 : (b : Board) (x s n : ℕ) → PutApart b s n (Ok (let c : Board = record b { t1 = with_temp x b.t1 } in c)) (Ok (let c : Board = record (timers_leap s n b) { t1 = with_temp x (timers_leap s n b).t1 } in c))
+unfolding timers_leap
+temp_1 b x s n =
+    (ap (λ (u : Timer16). let c : Board = record (timers_leap s n b) { t1 = u } in let r : Result Board StopCause = Ok c in r) (sym (temp_cycles s n x b.t1)), like_t1 b (with_temp x b.t1) refl)
+
+put_t1 : (t : ℕ) (reg : Reg16) (b : Board) (at x s n : ℕ) → is_high reg ≡ true → PutApart b s n (put_by t (Timer1 reg) b at x) (put_by t (Timer1 reg) (timers_leap s n b) at x)
+put_t1 t high.CountH b at x s n e = temp_1 b x s n
+put_t1 t high.IcrH b at x s n e = temp_1 b x s n
+put_t1 t (high.CompH chan) b at x s n e = temp_1 b x s n
+put_t1 t _ b at x s n e = absurd (false_true e)
+
+temp_3 : (b : Board) (x s n : ℕ) → PutApart b s n (Ok (let c : Board = record b { t3 = with_temp x b.t3 } in c)) (Ok (let c : Board = record (timers_leap s n b) { t3 = with_temp x (timers_leap s n b).t3 } in c))
+unfolding timers_leap
+temp_3 b x s n =
+    (ap (λ (u : Timer16). let c : Board = record (timers_leap s n b) { t3 = u } in let r : Result Board StopCause = Ok c in r) (sym (temp_cycles s n x b.t3)), like_t3 b (with_temp x b.t3) refl)
+
+put_t3 : (t : ℕ) (reg : Reg16) (b : Board) (at x s n : ℕ) → is_high reg ≡ true → PutApart b s n (put_by t (Timer3 reg) b at x) (put_by t (Timer3 reg) (timers_leap s n b) at x)
+put_t3 t high.CountH b at x s n e = temp_3 b x s n
+put_t3 t high.IcrH b at x s n e = temp_3 b x s n
+put_t3 t (high.CompH chan) b at x s n e = temp_3 b x s n
+put_t3 t _ b at x s n e = absurd (false_true e)
+
 put_apart : (t : ℕ) (rule : Rule) (b : Board) (at x s n : ℕ) → is_plain_write rule at ≡ true → PutApart b s n (put_by t rule b at x) (put_by t rule (timers_leap s n b) at x)
 unfolding timers_leap
 put_apart t Reserved b at x s n e = refl
@@ -266,9 +291,9 @@ put_apart t CpuControl b at x s n e =
 put_apart t TimerFlags b at x s n e = absurd (false_true e)
 put_apart t ExtendedTimerFlags b at x s n e = absurd (false_true e)
 put_apart t (Timer0 reg) b at x s n e = absurd (false_true e)
-put_apart t (Timer1 reg) b at x s n e = absurd (false_true e)
+put_apart t (Timer1 reg) b at x s n e = put_t1 t reg b at x s n e
 put_apart t (Timer2 reg) b at x s n e = absurd (false_true e)
-put_apart t (Timer3 reg) b at x s n e = absurd (false_true e)
+put_apart t (Timer3 reg) b at x s n e = put_t3 t reg b at x s n e
 put_apart t (Usart0 reg) b at x s n e = absurd (false_true e)
 put_apart t (Spi reg) b at x s n e = absurd (false_true e)
 

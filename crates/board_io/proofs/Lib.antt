@@ -24,7 +24,8 @@ pub mod Beside
 -- A write of SPDR where the serial peripheral interface asks for no interrupt: of what is known of the board, only its
 -- next end changes.
 pub mod Sent
--- What serving an interrupt does to a board whose timers lag: it clears a flag, now as well as later.
+-- What serving an interrupt and a write of TIFR or ETIFR do to a board whose timers lag: they clear flags, now as well
+-- as later.
 pub mod Served
 -- A read that changes nothing gives the same as long as the timers alone move.
 pub mod Still

@@ -16,6 +16,8 @@ use Rattle.board_io.specs.Names.{ETIMSK, TIMSK}
 use Rattle.board_io.specs.Passing.{changes_flag_at, sets_flag_at}
 use Rattle.board_io.specs.declared.rules.Rule.{Rule}
 use Rattle.board_io.specs.declared.rules.Rule.TheVariants.{Reserved, Pin, Kept, Guarded, WatchdogControl, ResetFlags, CpuControl, TimerFlags, ExtendedTimerFlags, Timer0, Timer1, Timer2, Timer3, Usart0, Spi}
+use Rattle.avr_timers.specs.declared.registers16.Reg16.{Reg16}
+use Rattle.avr_timers.specs.declared.registers16.Reg16.TheVariants.{CountH, IcrH, CompH}
 use Rattle.serial_ports.specs.declared.spi.Spi.{Spi as SpiPort}
 use Rattle.serial_ports.specs.declared.spi_registers.SpiReg.{SpiReg}
 use Rattle.serial_ports.specs.declared.spi_registers.SpiReg.TheVariants as spi
@@ -98,11 +100,24 @@ leaves_timers (Timer3 reg) = false
 leaves_timers (Usart0 reg) = true
 leaves_timers (Spi reg) = true
 
+-- TIFR and ETIFR
+abbrev pub is_flags : Rule → Bool
+is_flags TimerFlags = true
+is_flags ExtendedTimerFlags = true
+is_flags _ = false
+
 -- neither TIMSK nor ETIMSK, which enable the timers' lines
 abbrev pub is_no_mask : ℕ → Bool
 is_no_mask at = not (at == TIMSK) && not (at == ETIMSK)
 
--- whether a write by a rule of the register at an address looks at no timer, and leaves the lines and what may end
+-- a high byte of a timer of sixteen bits, whose write fills TEMP alone
+abbrev pub is_high : Reg16 → Bool
+is_high CountH = true
+is_high IcrH = true
+is_high (CompH chan) = true
+is_high _ = false
+
+-- whether a write by a rule of the register at an address moves no event of a timer, and leaves the lines and what may end
 abbrev pub is_plain_write : Rule → ℕ → Bool
 is_plain_write Reserved at = true
 is_plain_write (Pin port) at = true
@@ -114,9 +129,9 @@ is_plain_write CpuControl at = is_no_mask at
 is_plain_write TimerFlags at = false
 is_plain_write ExtendedTimerFlags at = false
 is_plain_write (Timer0 reg) at = false
-is_plain_write (Timer1 reg) at = false
+is_plain_write (Timer1 reg) at = is_high reg
 is_plain_write (Timer2 reg) at = false
-is_plain_write (Timer3 reg) at = false
+is_plain_write (Timer3 reg) at = is_high reg
 is_plain_write (Usart0 reg) at = false
 is_plain_write (Spi reg) at = false
 

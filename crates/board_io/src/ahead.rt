@@ -39,9 +39,9 @@ pub fn clear_until(lines: u64, next: u64) -> u64
 impl Board {
     ghost use Rattle.board_io.specs.Lagging.{caught_up};
 
-    /// What is known of it from the cycle `settled` on, which its timers have come to.
+    /// What is known of it from the cycle `settled` on, which its timers have come to, where its lines were `before`.
     #[inline(always)]
-    pub fn ahead(&self, settled: u64) -> Forecast
+    pub fn ahead(&self, settled: u64, before: u64) -> Forecast
         requires { settled ≤ LAST_CYCLE }
         ensures settled { result.settled ≡ settled }
         ensures ahead { IsAhead result settled self.now }
@@ -49,8 +49,8 @@ impl Board {
         let calm = self.quiet(settled, LAST_CYCLE - settled);
         let same = self.same_lines(settled, calm + 1);
         let steady = settled + (same - 1);
-        let next = self.same_until(settled, calm, steady);
         let lines = self.lines().bits;
+        let next = self.same_until(settled, calm, steady, lines != before);
         Forecast {
             settled,
             next,
@@ -61,15 +61,19 @@ impl Board {
     }
 
     // Up to which cycle, of at most `calm` cycles from `settled` on, no flag changes, where none is set below `steady`.
-    // Most timers set one that is not set; of those that set one again and again, the first that is not is looked for.
+    // Most timers set one that is not set; of those that set one again and again, the first that is not is looked for, but
+    // where a line has just gone up, whose flag is most often cleared before that.
     #[inline(always)]
-    fn same_until(&self, settled: u64, calm: u64, steady: u64) -> u64
+    fn same_until(&self, settled: u64, calm: u64, steady: u64, is_new: bool) -> u64
         requires early { settled + calm ≤ LAST_CYCLE }
         requires within { steady ≤ settled + calm }
         requires steady { (i : ℕ) → settled + i < steady → sets_flag_at settled self.now i ≡ false }
         ensures within { result ≤ settled + calm }
         ensures calm { (i : ℕ) → settled + i < result → changes_flag_at settled self.now i ≡ false }
     {
+        if is_new {
+            return steady;
+        }
         if steady >= settled + NEAR.min(calm) {
             return steady;
         }
@@ -84,6 +88,12 @@ impl Board {
         ensures calm { (i : ℕ) → settled + i < result → changes_flag_at settled self.now i ≡ false }
     {
         settled + self.same_flags(settled, calm)
+    }
+
+    // Whether a frame or a transfer may end before a cycle. Nothing rests on it: it saves a look ahead.
+    #[inline(always)]
+    pub fn may_end_before(&self, cycle: u64) -> bool {
+        self.spi.done_at().is_some_and(|end| end < cycle)
     }
 
     /// What is known of it in the cycle `clock`, where of its timers what `before` tells is known still.

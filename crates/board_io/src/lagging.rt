@@ -1,12 +1,12 @@
 // A board that does its timers' cycles once somebody looks at them.
-ghost use Rattle.std.specs.Prelude.{◌≡◌, ◌≤◌, ◌<◌, ◌+◌, ◌-◌, ◌*◌, true, false, is_some};
+ghost use Rattle.std.specs.Prelude.{◌≡◌, ◌≤◌, ◌<◌, ◌+◌, ◌-◌, ◌*◌, ℕ, true, false, is_some};
 ghost use Rattle.air_base.specs.Bounds.{LAST_CYCLE};
 ghost use Rattle.air_base.specs.declared.bounds.TheConstants.{LONGEST_BYTE};
 ghost use Rattle.board_io.specs.Lagging.{IsUneventful, IsIdle};
 
 use crate::ahead::{Forecast, clear_until};
 use crate::{Board, Clock, ClockedBoard, CycleOutput, Sleep};
-use air_base::Heard;
+use air_base::{Heard, LAST_CYCLE};
 use avr_base::{Lines, Vector};
 use std::marker::Model;
 
@@ -36,7 +36,7 @@ impl Model for LaggingBoard {
 
 impl LaggingBoard {
     ghost use Rattle.board_io.specs.Board.{clocked, reset_board, sleep_mode};
-    ghost use Rattle.board_io.specs.Cycle.{board_air, board_answered, board_begun, board_serial, is_asks, timers_leap};
+    ghost use Rattle.board_io.specs.Cycle.{board_air, board_answered, board_begun, board_quiet, board_serial, is_asks, timers_leap};
     ghost use Rattle.board_io.specs.Lines.{entered_of, lines_of};
 
     /// The board after reset, at cycle 0, with the byte time of its radio in cycles, at most 4,096.
@@ -170,6 +170,47 @@ impl LaggingBoard {
         true
     }
 
+    /// Passes the `n` cycles from `cycle` on, which is that of its clock, if no frame and no transfer ends in any of them,
+    /// be it that timers set flags: whether it passed them.
+    #[inline(always)]
+    pub fn leap_quiet(&mut self, cycle: u64, n: u8) -> bool
+        requires now { self.old.clock ≡ cycle }
+        ensures quiet { (i : ℕ) → result ≡ true → i < n → board_quiet (cycle + i) self.old.board ≡ true }
+        ensures state { result ≡ true → self.new.board ≡ timers_leap cycle n self.old.board }
+        ensures clock { result ≡ true → self.new.clock ≡ cycle + n }
+        ensures same { result ≡ false → self.new ≡ self.old }
+    {
+        if self.leap_whole(cycle, n) {
+            return true;
+        }
+        // most often a transfer's end is what comes
+        if self.held.board.may_end_before(cycle + u64::from(n)) {
+            return false;
+        }
+        self.leap_over_flags(cycle, n)
+    }
+
+    // The same where a timer may set a flag in them.
+    #[inline(never)]
+    fn leap_over_flags(&mut self, cycle: u64, n: u8) -> bool
+        requires now { self.old.clock ≡ cycle }
+        ensures quiet { (i : ℕ) → result ≡ true → i < n → board_quiet (cycle + i) self.old.board ≡ true }
+        ensures state { result ≡ true → self.new.board ≡ timers_leap cycle n self.old.board }
+        ensures clock { result ≡ true → self.new.clock ≡ cycle + n }
+        ensures same { result ≡ false → self.new ≡ self.old }
+    {
+        let settled = self.ahead.settled;
+        let n = u64::from(n);
+        let end = cycle + n;
+        if end > LAST_CYCLE || self.held.board.quiet(cycle, n) < n {
+            return false;
+        }
+        self.held.board.leap(settled, end - settled);
+        self.held.clock = Clock::new(end);
+        self.ahead = self.held.board.ahead(end, self.ahead.lines);
+        true
+    }
+
     // The devices' part of a cycle in which something may end.
     #[inline(never)]
     fn begin_caught_up(&mut self, cycle: u64, arrival: Option<u8>) -> CycleOutput
@@ -186,7 +227,7 @@ impl LaggingBoard {
         self.held.board.leap(settled, n);
         let begun = self.held.board.begin_ports(cycle, arrival);
         self.held.clock = Clock::new(cycle + 1);
-        self.ahead = self.held.board.ahead(cycle + 1);
+        self.ahead = self.held.board.ahead(cycle + 1, self.ahead.lines);
         begun
     }
 
@@ -218,7 +259,10 @@ impl LaggingBoard {
             .board
             .catch_up(self.ahead.settled, self.held.clock);
         self.held.board.answer(h);
-        self.ahead = self.held.board.ahead(self.held.clock.get());
+        self.ahead = self
+            .held
+            .board
+            .ahead(self.held.clock.get(), self.ahead.lines);
     }
 
     /// What serving the interrupt of the vector `v` does to its source.
@@ -248,6 +292,9 @@ impl LaggingBoard {
             .board
             .catch_up(self.ahead.settled, self.held.clock);
         self.held.board.entered(v);
-        self.ahead = self.held.board.ahead(self.held.clock.get());
+        self.ahead = self
+            .held
+            .board
+            .ahead(self.held.clock.get(), self.ahead.lines);
     }
 }

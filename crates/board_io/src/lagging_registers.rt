@@ -1,6 +1,12 @@
 // The I/O registers of a board that lags.
-ghost use Rattle.std.specs.Prelude.{◌≡◌, ◌≤◌, true, false};
-ghost use Rattle.board_io.specs.Lagging.{ReadsStill, is_spdr, is_still_port, is_still_read, is_udr, is_plain_read, is_plain_write, leaves_timers};
+ghost use Rattle.std.specs.Prelude.{◌≡◌, ◌≤◌, ◌+◌, true, false};
+ghost use Rattle.air_base.specs.Bounds.{LAST_END};
+ghost use Rattle.avr_timers.specs.Clock.{cycles};
+ghost use Rattle.avr_timers.specs.Registers16 as reg16;
+ghost use Rattle.avr_timers.specs.Registers8 as reg8;
+ghost use Rattle.avr_timers.specs.Timer16 as timer16;
+ghost use Rattle.avr_timers.specs.Timer8 as timer8;
+ghost use Rattle.board_io.specs.Lagging.{ReadsStill, is_flags, is_high, is_spdr, is_still_port, is_still_read, is_udr, is_plain_read, is_plain_write, leaves_timers};
 ghost use Rattle.board_io.specs.Table.{rule_of};
 ghost use Rattle.serial_ports.specs.Usart.{lines_of as usart_lines};
 
@@ -10,6 +16,7 @@ use crate::passing::cycles_before;
 use crate::rules::{LAST, Rule, listed_rule};
 use crate::{Board, LaggingBoard};
 use avr_base::StopCause;
+use avr_timers::{Reg8, Reg16, Timer8, Timer16};
 use data_space::Bus;
 use serial_ports::{Spi, SpiReg, UsartReg};
 
@@ -60,8 +67,24 @@ fn is_plain_read(rule: Rule) -> bool
     }
 }
 
-// Whether a write by a rule of the register at an address looks at no timer, and leaves the lines and what may end.
-// TIMSK and ETIMSK enable the timers' lines.
+// Whether a register of a timer of sixteen bits is a high byte, whose write fills TEMP alone.
+#[inline]
+fn is_high(reg: Reg16) -> bool
+    ensures { result ≡ is_high reg }
+{
+    match reg {
+        Reg16::CountH | Reg16::IcrH | Reg16::CompH(_) => true,
+        Reg16::ControlA
+        | Reg16::ControlB
+        | Reg16::ControlC
+        | Reg16::CountL
+        | Reg16::IcrL
+        | Reg16::CompL(_) => false,
+    }
+}
+
+// Whether a write by a rule of the register at an address moves no event of a timer, and leaves the lines and what may
+// end. TIMSK and ETIMSK enable the timers' lines.
 #[inline]
 fn is_plain_write(rule: Rule, at: u8) -> bool
     ensures { result ≡ is_plain_write rule at }
@@ -74,11 +97,10 @@ fn is_plain_write(rule: Rule, at: u8) -> bool
         Rule::TimerFlags
         | Rule::ExtendedTimerFlags
         | Rule::Timer0(_)
-        | Rule::Timer1(_)
         | Rule::Timer2(_)
-        | Rule::Timer3(_)
         | Rule::Usart0(_)
         | Rule::Spi(_) => false,
+        Rule::Timer1(reg) | Rule::Timer3(reg) => is_high(reg),
     }
 }
 
@@ -92,6 +114,29 @@ fn is_still_port(reg: SpiReg, port: &Spi) -> bool
         SpiReg::Status => !port.spif & !port.wcol & !port.noted_spif & !port.noted_wcol,
         SpiReg::Spdr => false,
     }
+}
+
+// What a register of a timer reads as behind the `n` cycles from `cycle` on, of which the timer is not told.
+fn late_8(timer: &Timer8, cycle: u64, n: u64, reg: Reg8) -> u8
+    requires { cycle + n ≤ LAST_END }
+    ensures { result ≡ reg8.get_of (cycles timer8.timer_cycle cycle n timer.now) reg }
+{
+    let mut later = *timer;
+    later.leap(cycle, n);
+    later.get(reg)
+}
+
+// The same of a timer of sixteen bits: of it TEMP may change.
+fn late_16(timer: &mut Timer16, cycle: u64, n: u64, reg: Reg16) -> u8
+    requires { cycle + n ≤ LAST_END }
+    ensures got { reg16.get_of (cycles timer16.timer_cycle cycle n timer.old) reg ≡ (result, cycles timer16.timer_cycle cycle n timer.new) }
+    ensures others { timer.new ≡ record timer.old { temp = timer.new.temp } }
+{
+    let mut later = *timer;
+    later.leap(cycle, n);
+    let byte = later.get(reg);
+    timer.temp = later.temp;
+    byte
 }
 
 impl Board {
@@ -205,8 +250,8 @@ impl LaggingBoard {
             .get_by(Rule::Usart0(UsartReg::Udr), at as u8)
     }
 
-    // A read of a port, or of a timer that may have passed its top, in a call of its own: inlined, the code would slow the
-    // other reads.
+    // A read of a port, or of a timer that may have passed its top: this timer alone is looked at, and what is known of the
+    // board stays. In a call of its own: inlined, the code would slow the other reads.
     #[inline(never)]
     fn get_beside(&mut self, at: u16) -> Result<u8, StopCause>
         requires { at ≤ 0x9F }
@@ -214,7 +259,13 @@ impl LaggingBoard {
     {
         let low = at as u8;
         let rule = listed_rule(at);
+        let settled = self.ahead.settled;
+        let n = self.held.clock.get() - settled;
         match rule {
+            Rule::Timer0(reg) => Ok(late_8(&self.held.board.t0, settled, n, reg)),
+            Rule::Timer1(reg) => Ok(late_16(&mut self.held.board.t1, settled, n, reg)),
+            Rule::Timer2(reg) => Ok(late_8(&self.held.board.t2, settled, n, reg)),
+            Rule::Timer3(reg) => Ok(late_16(&mut self.held.board.t3, settled, n, reg)),
             Rule::Usart0(_) | Rule::Spi(_) => self.get_port(rule, low),
             _ => self.get_caught_up(rule, low),
         }
@@ -228,17 +279,30 @@ impl LaggingBoard {
             .board
             .catch_up(self.ahead.settled, self.held.clock);
         let got = self.held.board.get_by(rule, at);
-        self.ahead = self.held.board.ahead(self.held.clock.get());
+        self.ahead = self
+            .held
+            .board
+            .ahead(self.held.clock.get(), self.ahead.lines);
         got
     }
 
-    // A write that looks at no timer.
+    // A write that moves no timer's event.
     #[inline]
     fn put_plain(&mut self, rule: Rule, at: u8, x: u8) -> Result<(), StopCause>
         requires { is_plain_write rule at ≡ true }
         ensures { IsPut (put_in rule self.old at x) self.old result self.new }
     {
         self.held.board.put_by(self.held.clock, rule, at, x)
+    }
+
+    // A write of a register that only holds a byte.
+    #[inline(always)]
+    fn put_kept(&mut self, mask: u8, at: u8, x: u8) -> Result<(), StopCause>
+        requires { is_plain_write (Rule.Kept mask) at ≡ true }
+        ensures { IsPut (put_in (Rule.Kept mask) self.old at x) self.old result self.new }
+    {
+        self.held.board.keep(at, x & mask);
+        Ok(())
     }
 
     // A read of USART0 or of the serial peripheral interface, which may move its lines and its end.
@@ -264,6 +328,25 @@ impl LaggingBoard {
         put
     }
 
+    // A write of TIFR or ETIFR, which moves no event: where no timer has set a flag since its timers were made up for, the
+    // flags are cleared before their cycles as behind them.
+    #[inline(never)]
+    fn put_flags(&mut self, rule: Rule, at: u8, x: u8) -> Result<(), StopCause>
+        requires { is_flags rule ≡ true }
+        ensures { IsPut (put_in rule self.old at x) self.old result self.new }
+    {
+        if self.held.clock.get() > self.ahead.steady {
+            return self.put_and_look_ahead(rule, at, x);
+        }
+        let put = self.held.board.put_by(self.held.clock, rule, at, x);
+        let lines = self.held.board.lines().bits;
+        let next = self.ahead.next.min(self.ahead.steady);
+        self.ahead.next = next;
+        self.ahead.lines = lines;
+        self.ahead.clear = clear_until(lines, next);
+        put
+    }
+
     // A write that may move a line or an event.
     #[inline(never)]
     fn put_beside(&mut self, at: u16, x: u8) -> Result<(), StopCause>
@@ -274,6 +357,7 @@ impl LaggingBoard {
         let rule = listed_rule(at);
         match rule {
             Rule::Usart0(_) | Rule::Spi(_) | Rule::Kept(_) => self.put_port(rule, low, x),
+            Rule::TimerFlags | Rule::ExtendedTimerFlags => self.put_flags(rule, low, x),
             _ => self.put_and_look_ahead(rule, low, x),
         }
     }
@@ -307,7 +391,10 @@ impl LaggingBoard {
             .board
             .catch_up(self.ahead.settled, self.held.clock);
         let put = self.held.board.put_by(self.held.clock, rule, at, x);
-        self.ahead = self.held.board.ahead(self.held.clock.get());
+        self.ahead = self
+            .held
+            .board
+            .ahead(self.held.clock.get(), self.ahead.lines);
         put
     }
 }
@@ -339,11 +426,10 @@ impl Bus for LaggingBoard {
         }
         let low = at as u8;
         let rule = listed_rule(at);
-        if is_plain_write(rule, low) {
-            return self.put_plain(rule, low, b);
-        }
         match rule {
+            Rule::Kept(mask) if low != TIMSK && low != ETIMSK => self.put_kept(mask, low, b),
             Rule::Spi(SpiReg::Spdr) => self.put_spdr(at, b),
+            _ if is_plain_write(rule, low) => self.put_plain(rule, low, b),
             _ => self.put_beside(at, b),
         }
     }

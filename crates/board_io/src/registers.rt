@@ -119,7 +119,7 @@ impl Board {
     }
 
     // Keeps a byte in a register that no device has.
-    fn keep(&mut self, at: u8, x: u8)
+    pub(crate) fn keep(&mut self, at: u8, x: u8)
         ensures { self.new ≡ with_kept at x self.old }
     {
         self.kept[usize::from(at)] = x;

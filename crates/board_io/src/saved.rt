@@ -209,7 +209,7 @@ impl LaggingBoard {
         requires { cycle ≤ LAST_CYCLE }
         ensures { result ≡ clocked cycle board }
     {
-        let ahead = board.ahead(cycle);
+        let ahead = board.ahead(cycle, 0);
         let clock = Clock::new(cycle);
         LaggingBoard {
             ahead,

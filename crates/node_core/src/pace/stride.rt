@@ -28,13 +28,13 @@ impl Machine {
         if cycle + u64::from(taken) > end {
             return false;
         }
-        self.bus.io.leap_whole(cycle, taken)
+        self.bus.io.leap_quiet(cycle, taken)
     }
 
     // The devices' part of the cycle `cycle`, in which an instruction begins that takes `taken` cycles, and its other
     // cycles, if they end by `end`, up to which no byte arrives, and the devices end nothing in them: whether it was
-    // so. Not where `taken` is 0.
-    #[inline(always)]
+    // so. Not where `taken` is 0. In a call of its own: inlined, the code would slow the sprint beside it.
+    #[inline(never)]
     fn finish_instruction(&mut self, cycle: u64, end: u64, taken: u8) -> bool
         requires going { 0 < taken → IsGoing taken (shown self.old) }
         requires now { self.old.bus.io.clock ≡ cycle }
