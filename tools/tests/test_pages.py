@@ -6,7 +6,7 @@ import xml.etree.ElementTree
 
 import pytest
 
-from avrora_tools.reporting import bars, markup, pages, palette, timelines
+from avrora_tools.reporting import bars, code_sections, markup, pages, palette, timelines
 from avrora_tools.reporting.bars import Bar, Part
 from pages_read import Page, check_policy
 from support import DATA, SEED, run_tool
@@ -178,3 +178,29 @@ def test_bars_are_as_long_as_what_they_are_of():
     assert labels == ["0", "1", "2", "3", "4", "5", "6", "7", "8 mA"] and len(grid) == 9
     assert grid[-1] - grid[0] == pytest.approx(third, abs=0.2)
     assert "<style>" in bars.drawn(rows, "", "x") and "<style>" not in bars.drawn(rows, "", "x", is_part_of_page=True)
+
+
+# ---- call stacks
+
+
+def flattened(trees, names, above=()):
+    for name, own, below in trees:
+        path = (*above, names[name])
+        if own:
+            yield path, own
+        yield from flattened(below, names, path)
+
+
+def test_call_stacks_become_trees_that_have_each_cycle(monkeypatch):
+    draw = random.Random(SEED)
+    paths = {}
+    for _ in range(400):
+        paths[tuple(draw.choices("abcdef", k=draw.randrange(1, 6)))] = draw.choice([1, 1, 7, 90, 5_000])
+    names = {}
+    trees = code_sections.tree_of(paths, names)
+    assert dict(flattened(trees, list(names))) == paths, f"seed {SEED}"
+    monkeypatch.setattr(code_sections, "MOST_STACKS", 10)
+    monkeypatch.setattr(code_sections, "LEAST_SHARE", 1_000)
+    names = {}
+    fewer = dict(flattened(code_sections.tree_of(paths, names), list(names)))
+    assert sum(fewer.values()) == sum(paths.values()) and len(fewer) < len(paths), f"seed {SEED}"

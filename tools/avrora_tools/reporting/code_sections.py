@@ -18,6 +18,7 @@ MOST_FUNCTIONS, MOST_SOURCE_LINES = 60, 40  # that are told
 MOST_SOURCE = 700_000  # characters of all sources that are shown
 LARGEST_SOURCE = 200_000  # of one file
 MOST_GRAPHS = 16  # nodes with a flame graph each
+MOST_STACKS = 3_000  # of a flame graph; of more
 LEAST_SHARE = 5_000  # a call stack with less than one in so many cycles is told with its caller's
 
 
@@ -120,7 +121,7 @@ def flame_data(costs: Mapping[int, NodeCosts]) -> dict[str, object]:
 
 
 def tree_of(paths: Mapping[tuple[str, ...], int], names: dict[str, int]) -> list[Node]:
-    least = sum(paths.values()) / LEAST_SHARE
+    least = sum(paths.values()) / LEAST_SHARE if len(paths) > MOST_STACKS else 0
     roots: dict[str, list[object]] = {}
     for path, cycles in sorted(paths.items(), key=lambda item: (-item[1], item[0])):
         level, entry = roots, None
