@@ -149,10 +149,20 @@ static void nap(uint16_t count)
 {
     for (uint16_t start = now(); now() - start < count;) sleep_mode();
 }
+/* A number from 1 to 16, of its own at each node, so that two that meet do not meet each time. */
+static uint8_t drawn(void)
+{
+    static uint8_t noise;
+    if (noise == 0) noise = 37 * number + 1;
+    noise = noise >> 1 ^ (noise & 1 ? 0xB8 : 0);
+    return 1 + (noise & 15);
+}
 /* Sends a packet of a leaf, while it is the turn of leaves and nobody is heard. */
 static void say(const struct packet *p)
 {
-    while (!has_beacon || since_beacon() > OPEN - PACKET_TICKS || !is_quiet) nap(1 + number);
+    do {
+        nap(drawn());
+    } while (!has_beacon || since_beacon() > OPEN - PACKET_TICKS || !is_quiet);
     ATOMIC_BLOCK(ATOMIC_RESTORESTATE) put_out(p);
     while (out_left) sleep_mode();
 }
@@ -262,7 +272,6 @@ static void deliver(struct packet *p)
         say(p);
         if (was_answered(p)) return;
         if (!(FIXED & GROWS)) take_events(p);           /* fault: its number is that of the shorter one */
-        nap(7 * number);
     }
 }
 static void leaf(void)
