@@ -1,17 +1,12 @@
 -- Places at which nothing is seen in a cycle.
-use Rattle.std.proofs.Common.{◌≡◌, ℕ, ◌+◌, ◌<◌, ◌==◌, Bool, false, not, Option, List, [], ◌++◌, length, sym, subst, ap, ◌∙◌, arith, append-nil}
+use Rattle.std.proofs.Common.{◌≡◌, ℕ, Option, List, ◌++◌, length, sym, ap, ◌∙◌, append-nil}
 use Rattle.std.specs.Prelude.{slice_index, slice_index_or}
-use Rattle.std.proofs.lemmas.Bool.Decides.{nat_tests}
-use native.Mathlib.Decide.{ℕ_discrete}
 use Rattle.air_base.proofs.Each.{each_none}
 use Rattle.node_core.specs.State.{NodeState}
 use Rattle.node_places.specs.declared.Change.{Change}
 use Rattle.node_places.specs.declared.Place.{Place}
-use Rattle.node_places.specs.declared.Seen.TheVariants as seen
-use Rattle.node_places.specs.declared.Spot.{Spot}
-use Rattle.node_places.specs.declared.Spot.TheVariants as spot
-use Rattle.fleet_flight.specs.Shadows.{AreBytes, AreQuiet, IsQuietAt, seen_of_all}
-use Rattle.fleet_flight.specs.Watched.{byte_at, byte_of, is_at, no_place, seen_from, seen_if}
+use Rattle.fleet_flight.specs.Shadows.{AreQuiet, seen_of_all}
+use Rattle.fleet_flight.specs.Watched.{no_place, seen_from}
 
 module _ (ps : List Place) (xs : List ℕ) (begun : Option ℕ) (u : NodeState) where
   pub quiet_seen : (t : ℕ) (cs : List Change) → AreQuiet (length ps) ps xs begun u → cs ≡ cs ++ seen_of_all ps xs begun t u
