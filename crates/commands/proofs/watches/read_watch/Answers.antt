@@ -9,7 +9,7 @@ use Rattle.command_plans.specs.Reading.{Reached}
 use Rattle.command_plans.proofs.Steps.{stopped_behind}
 use Rattle.commands.specs.Plan.{up_to_plan}
 use Rattle.commands.proofs.SweepRuns.{both_got, next_stopped}
-use Rattle.commands.proofs.Watches.{spots_are}
+use Rattle.commands.proofs.Placed.{spots_are}
 use Rattle.commands.proofs.watches.read_watch.Goals as goal
 
 pub returns-in-Err-clause-err : goal.returns-in-Err-clause-err
@@ -24,7 +24,7 @@ returns-in-Ok-read_places-clause-ok g c =
 
 pub returns-in-Ok-read_places-clause-fit : goal.returns-in-Ok-read_places-clause-fit
 returns-in-Ok-read_places-clause-fit g c = record {
-  rises = c.requires;
+  rises = c.requires.rises;
   within = c.in-Ok.ensures.within;
   spots = spots_are c.nodes-nodes.result c.in-Ok-read_places.places.items c.in-Ok-read_places.ensures.known;
 }
