@@ -29,6 +29,8 @@ Usage: $called [-C DIR] COMMAND
   head, save FILE N STATE   the same from a state on, for N epochs more
   look FILE CYCLE [STATE]  run it up to CYCLE, from a state on where there is one, and write the state of the network then
   resume FILE STATE   run it from a state on, and write the rest of the trace
+  watch FILE FROM TO PLACES [STATE [MOVES]]  run it, and write each change of a byte, and each instruction, at PLACES from FROM on,
+                      below TO; from a state on, and for each line of MOVES, where they are there
   sweep FILE STATE MOVES  the same again and again, once for each line of MOVES, with the input that it says
   node FILE CYCLES    run the image FILE (Intel HEX) on one node for CYCLES cycles (1 to 10000000, no _), and write its trace
   disasm FILE         list the instructions of the image FILE
@@ -41,7 +43,7 @@ ${own_help:+$own_help
 
 ${notice:+$notice
 }Exit status: 0 all is written, 1 writing failed, 2 bad command line, 3 a file cannot be read, 4 a scenario is refused,
-5 an image is refused, 6 out of memory, 7 a source is refused, 8 a state is refused, or moves, 9 the words cannot be had, 10 there is
+5 an image is refused, 6 out of memory, 7 a source is refused, 8 a state is refused, or moves, or places, 9 the words cannot be had, 10 there is
 no program that can run here. docs/FORMATS.md has every row, format and status.
 TEXT
 }
@@ -86,13 +88,14 @@ explain() {
 # table of its own, and no line of the file: explain_refusal LINE
 explain_refusal() {
     local part where= whole=
-    [[ $1 =~ :\ (scenario|image|source|state|moves)\ refused:\ ([A-Za-z]+)(,\ line\ [0-9]+)?$ && -r $formats ]] || return 0
+    [[ $1 =~ :\ (scenario|image|source|state|moves|places)\ refused:\ ([A-Za-z]+)(,\ line\ [0-9]+)?$ && -r $formats ]] || return 0
     case ${BASH_REMATCH[1]} in
         scenario) part=Scenarios where='; avrora-tools why FILE says where' ;;
         image) part=Images ;;
         source) part=Sources ;;
         state) part=States ;;
         moves) part=Moves ;;
+        places) part=Places ;;
     esac
     [[ -n ${BASH_REMATCH[3]} ]] || whole=yes
     awk -v part="## $part" -v where="$where" -v cause="${BASH_REMATCH[2]}" -v whole="$whole" -F ' *[|] *' '

@@ -10,6 +10,8 @@ cycle after the other in order of their numbers, and a sample hears what the lis
     bench/network/network.py save FILE N STATE    the state behind them
     bench/network/network.py look FILE CYCLE [STATE]    the state as a cycle begins, from reset or from a state on
     bench/network/network.py sweep FILE STATE MOVES    the rows from a state on, once for each line of MOVES
+    bench/network/network.py watch FILE FROM TO PLACES [STATE [MOVES]]    what is seen at places, from reset, from a state, or once
+                                                  for each line of MOVES
 
 It shares nothing with the crates: it is written from docs/ and the AVR Instruction Set Manual, and reads TOML by Python's
 tomllib. It takes some microseconds for each cycle of a node, so it is for short runs. Exit status and error stream are
@@ -22,8 +24,10 @@ from pathlib import Path
 sys.path.insert(0, str(Path(__file__).resolve().parent.parent / "scenario"))
 
 import cases as scenario_rules  # noqa: E402
+from changes import Changes  # noqa: E402
 from machine import Node  # noqa: E402
 from moves import read_moves  # noqa: E402
+from places import read_places  # noqa: E402
 from states import EPOCH, Fault, Rules, Saved, read_state, state_text  # noqa: E402
 
 MOST_SCENARIO, MOST_IMAGE, FLASH = 524_288, 1_048_576, 131_072
@@ -226,35 +230,75 @@ def cycle_of(send):
     return send[1]
 
 
-def open_network(files, name):
-    document = read_scenario(files, name)
+def network_of(files, document):
     flashes = [read_image(files, node["image"]) for node in document["node"]]
     return Network(document, flashes)
+
+
+def open_network(files, name):
+    return network_of(files, read_scenario(files, name))
 
 
 def refused(name, what, fault):
     return Refused(8, f"avrora: {name}: {what} refused: {fault}")
 
 
-def swept(files, name, state, moves):
-    """The rows of each run of a sweep, one run behind another."""
-    network = open_network(files, name)
+def read_all(files, name, what, read):
+    """What a text says of which `read` gives the meaning."""
+    text = files.read(name)
     try:
-        saved = read_state(network.rules, files.read(state))
+        return read(text)
     except Fault as fault:
-        raise refused(state, "state", fault) from None
-    try:
-        runs = read_moves(len(network.nodes), files.read(moves))
-    except Fault as fault:
-        raise refused(moves, "moves", fault) from None
-    own, written = [node.script for node in network.nodes], []
+        raise refused(name, what, fault) from None
+
+
+def runs_of(network, saved, runs):
+    """The network in a state, once for each of these moves, with the input that it says."""
+    own = [node.script for node in network.nodes]
     for moved, script in runs:
         for node in network.nodes:
             node.script = script if node.number == moved else own[node.number]
         network.restore(saved)
-        network.run()
-        written.append(network.trace())
+        yield network
+
+
+def swept(files, name, state, moves):
+    """The rows of each run of a sweep, one run behind another."""
+    network = open_network(files, name)
+    saved = read_all(files, state, "state", lambda text: read_state(network.rules, text))
+    runs = read_all(files, moves, "moves", lambda text: read_moves(len(network.nodes), text))
+    written = []
+    for one in runs_of(network, saved, runs):
+        one.run()
+        written.append(one.trace())
     return b"".join(written)
+
+
+def seen(network, places, first, end):
+    """What is seen at these places, from the cycle on in which the network stands: below `first` nothing is told."""
+    network.run_to(first)
+    changes = Changes(network)
+    changes.run_to(end)
+    return changes.text(places, first, end)
+
+
+def watched(files, name, first, end, places, state=None, moves=None):
+    """What is seen at places of a run, or of each run of a sweep."""
+    document = read_scenario(files, name)
+    if end > document["cycles"]:
+        raise Refused(4, f"avrora: {name}: scenario refused: OutOfRange")
+    network = network_of(files, document)
+    chosen = read_all(files, places, "places", lambda text: read_places(len(network.nodes), text))
+    if state is None:
+        return seen(network, chosen, first, end)
+    saved = read_all(files, state, "state", lambda text: read_state(network.rules, text))
+    if first < saved.cycle:
+        raise refused(state, "state", "PastCycle")
+    if moves is None:
+        network.restore(saved)
+        return seen(network, chosen, first, end)
+    runs = read_all(files, moves, "moves", lambda text: read_moves(len(network.nodes), text))
+    return b"".join(seen(one, chosen, first, end) for one in runs_of(network, saved, runs))
 
 
 def end_of(network, kind, number):
@@ -280,6 +324,8 @@ def outcome(files, words):
     kind, name, *rest = words
     if kind == "sweep":
         return swept(files, name, *rest)
+    if kind == "watch":
+        return watched(files, name, int(rest[0]), int(rest[1]), *rest[2:])
     state = rest[-1] if kind == "resume" or len(rest) == 2 else None
     network = open_network(files, name)
     try:
@@ -298,7 +344,7 @@ def outcome(files, words):
 
 def main():
     words = sys.argv[1:]
-    counts = {"head": (3, 4), "save": (3, 4), "look": (3, 4), "resume": (3,), "sweep": (4,)}
+    counts = {"head": (3, 4), "save": (3, 4), "look": (3, 4), "resume": (3,), "sweep": (4,), "watch": (5, 6, 7)}
     if len(words) != 1 and (not words or len(words) not in counts.get(words[0], ())):
         sys.exit(__doc__)
     try:

@@ -8,3 +8,5 @@ pub mod Bounded
 pub mod Saving
 -- What a test says of the nodes of a list, and of those of a run.
 pub mod Counted
+-- The SRAM of each node of a state has its size.
+pub mod Sized

@@ -21,3 +21,18 @@ impl<'a> Begins for InState<'a> {
         self.scenario.lawful_topo()
     }
 }
+
+/// A scenario in a saved state, for a run that is handed on.
+#[derive(Drop)]
+pub struct Onward<'a> {
+    pub scenario: &'a Scenario,
+    pub state: Snapshot<StateParts>,
+}
+
+impl<'a> Begins for Onward<'a> {
+    ghost origin = { λ b. origin_of b.scenario.now b.state.value };
+
+    fn topo(&self) -> &Topo {
+        self.scenario.lawful_topo()
+    }
+}

@@ -10,15 +10,18 @@ ghost use Rattle.node_core.specs.State.{NodeState};
 ghost use Rattle.world_core.specs.Order.{node_at};
 ghost use Rattle.fleet_flight.specs.Paused.{HaveBegun};
 ghost use Rattle.fleet_flight.specs.Rows.{rows_upto};
+ghost use Rattle.fleet_flight.specs.Shadows.{IsSpot, IsWatching, groups_of};
+ghost use Rattle.fleet_flight.specs.Watched.{groups_in};
 ghost use Rattle.checkpoint_text.specs.Onward.{CanResume, IsFit, onward, origin_of};
 ghost use Rattle.checkpoint_text.specs.NodeOf.{node_of};
 ghost use Rattle.checkpoint_text.specs.State.{counts_fit, kept_of};
 
-use crate::onward::InState;
+use crate::onward::{InState, Onward};
 use air_base::{LAST_CYCLE, Send};
 use avr_base::NoMemory;
-use fleet_flight::{kept_sends, pass_to, record_of, rows_to};
+use fleet_flight::{WatchedRun, kept_sends, pass_to, record_of, rows_to};
 use node_core::{Node, Row};
+use node_places::Place;
 use node_runner::Scenario;
 use state_text::{NodeParts, StateParts};
 use std::alloc::Global;
@@ -232,5 +235,34 @@ impl Saved {
         self.floor = next;
         self.failed = false;
         Ok(())
+    }
+
+    /// The run from the cycle reached on, watched at these places. The scenario is the one of the state. Not after
+    /// `NoMemory`.
+    pub fn watch<'a>(
+        self,
+        scenario: &'a Scenario,
+        places: &[Place],
+    ) -> Result<WatchedRun<Onward<'a>>, NoMemory>
+        requires same { scenario.now ≡ self.scenario }
+        requires sound { self.failed ≡ false }
+        requires spots { All (λ p. IsSpot p.spot) places.now }
+        ensures watching { IfOk result (λ w. IsWatching (origin_of w.from.scenario.now w.from.state.value) w.floor w.nodes.items w.log.sends w.shadows.items) }
+        ensures groups { IfOk result (λ w. groups_of w.shadows.items ≡ groups_in scenario.now.topo.nodes places.now) }
+        ensures scenario { IfOk result (λ w. w.from.scenario.now ≡ scenario.now) }
+        ensures state { IfOk result (λ w. w.from.state.value ≡ self.state) }
+        ensures floor { IfOk result (λ w. w.floor ≡ self.floor) }
+    {
+        let Saved {
+            alloc,
+            scenario: _,
+            state,
+            limit: _,
+            floor,
+            failed: _,
+            nodes,
+            log,
+        } = self;
+        WatchedRun::new(alloc, Onward { scenario, state }, nodes, log, floor, places)
     }
 }

@@ -8,9 +8,12 @@ use Rattle.ihex_loader.specs.Image.{hex_fault, image}
 use Rattle.ihex_loader.specs.declared.fault.HexFault.{HexFault}
 use Rattle.moves_text.specs.Moves.{MoveOf, moves_in}
 use Rattle.moves_text.specs.declared.fault.MovesFault.{MovesFault}
+use Rattle.node_places.specs.declared.Place.{Place}
+use Rattle.places_text.specs.Places.{places_in}
+use Rattle.places_text.specs.declared.fault.PlacesFault.{PlacesFault}
 use Rattle.scenario_file.specs.Scenario.{ScenarioParts, scenario_in}
 use Rattle.scenario_file.specs.declared.fault.ScenarioFault.{ScenarioFault}
-use Rattle.command_plans.specs.Plan.{Plan, Give, Refuse, Read, Refusal, BadWords, BadScenario, BadImage, BadSource, BadState, BadMoves, and_then, image_or, image_plan, images_behind, moves_or, moves_plan, scenario_or, scenario_plan, source_or, source_plan}
+use Rattle.command_plans.specs.Plan.{Plan, Give, Refuse, Read, Refusal, BadWords, BadScenario, BadImage, BadSource, BadState, BadMoves, BadPlaces, and_then, image_or, image_plan, images_behind, moves_or, moves_plan, places_or, places_plan, scenario_or, scenario_plan, source_or, source_plan}
 use Rattle.command_plans.specs.Reading.{Files, Reached, Here, Fitting, TooLong, Accepts, Refuses, Verdict, Refused as RefusedVerdict, Accepted, Says, verdict, on_bytes}
 use Rattle.command_plans.specs.Ends.{Ends, End, Done, OutFailed, NoMemory, ReadFailed, Refused, Reads, Stream}
 use Rattle.command_plans.specs.Parts.{Reported, Stopped, StopsAt, Told, Written, end_at, end_of}
@@ -24,6 +27,8 @@ use Rattle.command_plans.specs.declared.trouble.SourceCause.TheVariants as sourc
 use Rattle.command_plans.specs.declared.trouble.StateCause.{StateCause}
 use Rattle.command_plans.specs.declared.trouble.MovesCause.{MovesCause}
 use Rattle.command_plans.specs.declared.trouble.MovesCause.TheVariants as moves_cause
+use Rattle.command_plans.specs.declared.trouble.PlacesCause.{PlacesCause}
+use Rattle.command_plans.specs.declared.trouble.PlacesCause.TheVariants as places_cause
 use Rattle.command_plans.specs.declared.trouble.Trouble.{Trouble}
 use Rattle.command_plans.specs.declared.trouble.Trouble.TheVariants as trouble
 
@@ -125,6 +130,9 @@ state_is_no_words name why e = cc
 moves_are_no_words : (name : List ℕ) (why : MovesCause) → BadMoves name why ≢ BadWords
 moves_are_no_words name why e = cc
 
+places_are_no_words : (name : List ℕ) (why : PlacesCause) → BadPlaces name why ≢ BadWords
+places_are_no_words name why e = cc
+
 keeps_image_or : (name : List ℕ) (o : Option HexFault) (flash : Image) → KeepsWords (image_or name o flash)
 keeps_image_or name (Some fault) flash = image_is_no_words name (cause.Faulty fault)
 keeps_image_or name None flash = tt
@@ -157,3 +165,10 @@ keeps_moves_or name (Err fault) = moves_are_no_words name (moves_cause.Faulty fa
 
 pub keeps_moves : (nodes : ℕ) (name : List ℕ) → KeepsWords (moves_plan nodes name)
 keeps_moves nodes name = (moves_are_no_words name moves_cause.TooLong, λ bytes. keeps_moves_or name (moves_in nodes bytes))
+
+keeps_places_or : (name : List ℕ) (r : Result (List Place) PlacesFault) → KeepsWords (places_or name r)
+keeps_places_or name (Ok places) = tt
+keeps_places_or name (Err fault) = places_are_no_words name (places_cause.Faulty fault)
+
+pub keeps_places : (nodes : ℕ) (name : List ℕ) → KeepsWords (places_plan nodes name)
+keeps_places nodes name = (places_are_no_words name places_cause.TooLong, λ bytes. keeps_places_or name (places_in nodes bytes))

@@ -8,9 +8,12 @@ use Rattle.ihex_loader.specs.Image.{hex_fault, image}
 use Rattle.ihex_loader.specs.declared.fault.HexFault.{HexFault}
 use Rattle.moves_text.specs.Moves.{MoveOf, moves_in}
 use Rattle.moves_text.specs.declared.fault.MovesFault.{MovesFault}
+use Rattle.node_places.specs.declared.Place.{Place}
+use Rattle.places_text.specs.Places.{places_in}
+use Rattle.places_text.specs.declared.fault.PlacesFault.{PlacesFault}
 use Rattle.scenario_file.specs.Scenario.{ScenarioParts, scenario_in}
 use Rattle.scenario_file.specs.declared.fault.ScenarioFault.{ScenarioFault}
-use Rattle.command_plans.specs.Plan.{Plan, Give, Refuse, Read, Refusal, BadScenario, BadImage, BadSource, BadMoves, and_then, image_plan, images_behind, images_plan, moves_or, moves_plan, scenario_plan, source_plan}
+use Rattle.command_plans.specs.Plan.{Plan, Give, Refuse, Read, Refusal, BadScenario, BadImage, BadSource, BadMoves, BadPlaces, and_then, image_plan, images_behind, images_plan, moves_or, moves_plan, places_or, places_plan, scenario_plan, source_plan}
 use Rattle.command_plans.specs.Reading.{Files, IsNext, IsReading, Reached, Here, Fitting, TooLong}
 use Rattle.command_plans.specs.Ends.{Reads, End, Done, OutFailed, NoMemory, ReadFailed, Refused}
 use Rattle.command_plans.specs.Parts.{StopsAt, Stopped}
@@ -20,6 +23,7 @@ use Rattle.command_plans.specs.declared.trouble.ImageCause.TheVariants as cause
 use Rattle.command_plans.specs.declared.trouble.ScenarioCause.TheVariants as scenario_cause
 use Rattle.command_plans.specs.declared.trouble.SourceCause.TheVariants as source_cause
 use Rattle.command_plans.specs.declared.trouble.MovesCause.TheVariants as moves_cause
+use Rattle.command_plans.specs.declared.trouble.PlacesCause.TheVariants as places_cause
 
 -- one reading after another
 pub both : {A : Type 0} (files : Files) (p q r : Plan A) → Reached files p q → Reached files q r → Reached files p r
@@ -134,6 +138,17 @@ pub moves_refused : (files : Files) (nodes : ℕ) (name bytes : List ℕ) (fault
 moves_refused files nodes name bytes fault read e =
     opened files name 4194304 (BadMoves name moves_cause.TooLong) bytes (Refuse (BadMoves name (moves_cause.Faulty fault))) read (λ b. moves_or name (moves_in nodes b))
     (rw e (Here (Refuse (BadMoves name (moves_cause.Faulty fault)))))
+
+pub places_accepted : (files : Files) (nodes : ℕ) (name bytes : List ℕ) (places : List Place) → Reached files (Read name 131072 (BadPlaces name places_cause.TooLong) Give) (Give bytes)
+    → places_in nodes bytes ≡ Ok places → Reached files (places_plan nodes name) (Give places)
+places_accepted files nodes name bytes places read e =
+    opened files name 131072 (BadPlaces name places_cause.TooLong) bytes (Give places) read (λ b. places_or name (places_in nodes b)) (rw e (Here (Give places)))
+
+pub places_refused : (files : Files) (nodes : ℕ) (name bytes : List ℕ) (fault : PlacesFault) → Reached files (Read name 131072 (BadPlaces name places_cause.TooLong) Give) (Give bytes)
+    → places_in nodes bytes ≡ Err fault → Reached files (places_plan nodes name) (Refuse (BadPlaces name (places_cause.Faulty fault)))
+places_refused files nodes name bytes fault read e =
+    opened files name 131072 (BadPlaces name places_cause.TooLong) bytes (Refuse (BadPlaces name (places_cause.Faulty fault))) read (λ b. places_or name (places_in nodes b))
+    (rw e (Here (Refuse (BadPlaces name (places_cause.Faulty fault)))))
 
 -- ---- the images of a network
 

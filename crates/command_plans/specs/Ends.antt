@@ -4,8 +4,9 @@ use Rattle.sim_io.specs.Outside.{Rose, extended, TookFront}
 use Rattle.asm_text.specs.Fault.{fault_name as source_fault_name, fault_line as source_fault_line}
 use Rattle.ihex_loader.specs.Fault.{fault_name, fault_line}
 use Rattle.moves_text.specs.Fault.{fault_name as moves_fault_name, fault_line as moves_fault_line}
+use Rattle.places_text.specs.Fault.{fault_name as places_fault_name, fault_line as places_fault_line}
 use Rattle.scenario_file.specs.Faults.{fault_name as scenario_fault_name}
-use Rattle.command_plans.specs.Plan.{Plan, Refusal, BadWords, BadScenario, BadImage, BadSource, BadState, BadMoves}
+use Rattle.command_plans.specs.Plan.{Plan, Refusal, BadWords, BadScenario, BadImage, BadSource, BadState, BadMoves, BadPlaces}
 use Rattle.command_plans.specs.Reading.{Files, Accepts, Refuses, IsNext, Verdict, Untold, Refused as RefusedVerdict, Accepted}
 use Rattle.command_plans.specs.declared.trouble.ImageCause.{ImageCause}
 use Rattle.command_plans.specs.declared.trouble.ImageCause.TheVariants as cause
@@ -17,6 +18,8 @@ use Rattle.command_plans.specs.declared.trouble.StateCause.{StateCause}
 use Rattle.command_plans.specs.declared.trouble.StateCause.TheVariants as state_cause
 use Rattle.command_plans.specs.declared.trouble.MovesCause.{MovesCause}
 use Rattle.command_plans.specs.declared.trouble.MovesCause.TheVariants as moves_cause
+use Rattle.command_plans.specs.declared.trouble.PlacesCause.{PlacesCause}
+use Rattle.command_plans.specs.declared.trouble.PlacesCause.TheVariants as places_cause
 use Rattle.state_text.specs.declared.fault.StateFault.TheVariants as state_fault
 use Rattle.command_plans.specs.declared.status.Status.{Status}
 use Rattle.command_plans.specs.declared.status.Status.TheVariants as status
@@ -73,7 +76,7 @@ Ends files plan store store' out out' NoMemory = (store' ≡ store) × HasFront 
 Ends files plan store store' out out' (ReadFailed name) = FailedRead store name store' × IsNext files plan name × (out' ≡ out)
 Ends files plan store store' out out' (Refused refusal) = (store' ≡ store) × Refuses files plan refusal × (out' ≡ out)
 
--- where the fault of an image, a source, a state or moves is
+-- where the fault of an image, a source, a state, moves or places is
 unfoldable pub place_text : Option ℕ → List ℕ
 place_text None = []
 place_text (Some line) = codes ", line " ++ decimal line
@@ -103,6 +106,10 @@ unfoldable pub moves_cause_text : MovesCause → List ℕ
 moves_cause_text moves_cause.TooLong = codes "TooLong"
 moves_cause_text (moves_cause.Faulty fault) = moves_fault_name fault ++ place_text (moves_fault_line fault)
 
+unfoldable pub places_cause_text : PlacesCause → List ℕ
+places_cause_text places_cause.TooLong = codes "TooLong"
+places_cause_text (places_cause.Faulty fault) = places_fault_name fault ++ place_text (places_fault_line fault)
+
 -- the line on `err` that each end owes
 unfoldable pub line_due : End → List ℕ
 line_due Done = []
@@ -115,6 +122,7 @@ line_due (Refused (BadImage name why)) = codes "avrora: " ++ name ++ (codes ": i
 line_due (Refused (BadSource name why)) = codes "avrora: " ++ name ++ (codes ": source refused: " ++ source_cause_text why ++ codes "\n")
 line_due (Refused (BadState name why)) = codes "avrora: " ++ name ++ (codes ": state refused: " ++ state_cause_text why ++ codes "\n")
 line_due (Refused (BadMoves name why)) = codes "avrora: " ++ name ++ (codes ": moves refused: " ++ moves_cause_text why ++ codes "\n")
+line_due (Refused (BadPlaces name why)) = codes "avrora: " ++ name ++ (codes ": places refused: " ++ places_cause_text why ++ codes "\n")
 
 abbrev pub refusal_status : Refusal → Status
 refusal_status BadWords = status.BadWords
@@ -123,6 +131,7 @@ refusal_status (BadImage name why) = status.BadImage
 refusal_status (BadSource name why) = status.BadSource
 refusal_status (BadState name why) = status.BadState
 refusal_status (BadMoves name why) = status.BadState
+refusal_status (BadPlaces name why) = status.BadState
 
 abbrev pub status_due : End → Status
 status_due Done = status.Done

@@ -2,7 +2,7 @@
 -- told. These are the contracts of the functions that a call is made of, and no part of what is said of the whole.
 use Rattle.std.specs.Prelude.{◌≡◌, ℕ, List, Result, Ok, Err}
 use Rattle.sim_io.specs.Outside.{TookFront}
-use Rattle.command_plans.specs.Plan.{Plan, Give, Refuse, Refusal, BadWords, BadScenario, BadImage, BadSource, BadState, BadMoves}
+use Rattle.command_plans.specs.Plan.{Plan, Give, Refuse, Refusal, BadWords, BadScenario, BadImage, BadSource, BadState, BadMoves, BadPlaces}
 use Rattle.command_plans.specs.Reading.{Files, Reached, IsNext}
 use Rattle.command_plans.specs.Ends.{Reads, Stream, took, FailedIn, FailedRead, End, Done, OutFailed, NoMemory, ReadFailed, Refused, line_due, status_due}
 use Rattle.command_plans.specs.declared.trouble.Complaint.{Complaint}
@@ -20,6 +20,7 @@ refusal_of (complaint.BadImage name why) = BadImage name.now why
 refusal_of (complaint.BadSource name why) = BadSource name.now why
 refusal_of (complaint.BadState name why) = BadState name.now why
 refusal_of (complaint.BadMoves name why) = BadMoves name.now why
+refusal_of (complaint.BadPlaces name why) = BadPlaces name.now why
 
 abbrev pub end_at : Trouble → End
 end_at trouble.OutFailed = OutFailed

@@ -7,6 +7,9 @@ use Rattle.ihex_loader.specs.Image.{hex_fault, image}
 use Rattle.ihex_loader.specs.declared.fault.HexFault.{HexFault}
 use Rattle.moves_text.specs.Moves.{MoveOf, moves_in}
 use Rattle.moves_text.specs.declared.fault.MovesFault.{MovesFault}
+use Rattle.node_places.specs.declared.Place.{Place}
+use Rattle.places_text.specs.Places.{places_in}
+use Rattle.places_text.specs.declared.fault.PlacesFault.{PlacesFault}
 use Rattle.scenario_file.specs.Scenario.{ScenarioParts, scenario_in}
 use Rattle.scenario_file.specs.declared.fault.ScenarioFault.{ScenarioFault}
 use Rattle.command_plans.specs.declared.trouble.ImageCause.{ImageCause}
@@ -18,6 +21,8 @@ use Rattle.command_plans.specs.declared.trouble.StateCause.{StateCause}
 use Rattle.command_plans.specs.declared.trouble.SourceCause.TheVariants as source_cause
 use Rattle.command_plans.specs.declared.trouble.MovesCause.{MovesCause}
 use Rattle.command_plans.specs.declared.trouble.MovesCause.TheVariants as moves_cause
+use Rattle.command_plans.specs.declared.trouble.PlacesCause.{PlacesCause}
+use Rattle.command_plans.specs.declared.trouble.PlacesCause.TheVariants as places_cause
 
 -- why a call is refused
 pub data Refusal : Type 0 where
@@ -33,6 +38,8 @@ pub data Refusal : Type 0 where
   BadState : (name : List ℕ) (why : StateCause) → Refusal
   -- the moves of a sweep in this file are not
   BadMoves : (name : List ℕ) (why : MovesCause) → Refusal
+  -- the places that are to be watched in this file are not
+  BadPlaces : (name : List ℕ) (why : PlacesCause) → Refusal
 
 -- what is left to do: nothing more, since this was got; a refusal; or a file to be read, of at most so many bytes, and
 -- what comes of its bytes
@@ -91,3 +98,12 @@ moves_or name (Err fault) = Refuse (BadMoves name (moves_cause.Faulty fault))
 -- read the moves of a sweep of so many nodes, of at most 4,194,304 bytes of text
 abbrev pub moves_plan : ℕ → List ℕ → Plan (List MoveOf)
 moves_plan nodes name = Read name 4194304 (BadMoves name moves_cause.TooLong) (λ bytes. moves_or name (moves_in nodes bytes))
+
+-- places are accepted where nothing is wrong with their text
+abbrev pub places_or : List ℕ → Result (List Place) PlacesFault → Plan (List Place)
+places_or name (Ok places) = Give places
+places_or name (Err fault) = Refuse (BadPlaces name (places_cause.Faulty fault))
+
+-- read the places of a network of so many nodes, of at most 131,072 bytes of text
+abbrev pub places_plan : ℕ → List ℕ → Plan (List Place)
+places_plan nodes name = Read name 131072 (BadPlaces name places_cause.TooLong) (λ bytes. places_or name (places_in nodes bytes))

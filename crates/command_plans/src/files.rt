@@ -1,17 +1,22 @@
 // Reads the files of a call.
 ghost use Rattle.std.specs.Prelude.{◌≡◌, ◌<◌, ◌≤◌, length, IfOk};
 ghost use Rattle.std.specs.List.{All};
+ghost use Rattle.places_text.specs.Known.{IsKnown};
 ghost use Rattle.scenario_file.specs.Scenario.{IsScenario};
 ghost use Rattle.scenario_file.specs.Shown.{parts};
-ghost use Rattle.command_plans.specs.Plan.{Give, Read, image_plan, images_plan, moves_plan, scenario_plan, source_plan};
+ghost use Rattle.command_plans.specs.Plan.{Give, Read, image_plan, images_plan, moves_plan, places_plan, scenario_plan, source_plan};
 ghost use Rattle.command_plans.specs.Ends.{reads};
 ghost use Rattle.command_plans.specs.Parts.{ReadAs, refusal_of};
 
-use crate::trouble::{Complaint, ImageCause, MovesCause, ScenarioCause, SourceCause, Trouble};
+use crate::trouble::{
+    Complaint, ImageCause, MovesCause, PlacesCause, ScenarioCause, SourceCause, Trouble,
+};
 use asm_text::{AsmFault, assemble};
 use avr_program::Program;
 use ihex_loader::{Flash, HexFault, load};
 use moves_text::{Move, MovesFault};
+use node_places::Place;
+use places_text::PlacesFault;
 use scenario_file::{ScenarioFault, ScenarioText};
 use sim_io::{Name, ReadFault, Store};
 use std::alloc::Global;
@@ -27,6 +32,9 @@ const MOST_SOURCE_BYTES: usize = 1_048_576;
 
 // The most bytes of the text of a sweep's moves.
 const MOST_MOVES_BYTES: usize = 4_194_304;
+
+// The most bytes of the text of places: more than as many lines as it may have can have.
+const MOST_PLACES_BYTES: usize = 131_072;
 
 /// The bytes of the file `name`, at most `most`; a longer one is refused as `too_long` says.
 pub fn read_file<'n, S: Store>(
@@ -167,5 +175,29 @@ pub fn read_moves<'n, S: Store>(
         Ok(moves) => Ok(moves),
         Err(MovesFault::NoMemory) => Err(Trouble::NoMemory),
         Err(fault) => Err(Trouble::Refused(Complaint::BadMoves(name, MovesCause::Faulty(fault)))),
+    }
+}
+
+/// The places of a network of so many nodes in the file `name`, which has at most 131,072 bytes of text.
+pub fn read_places<'n, S: Store>(
+    alloc: Global,
+    nodes: u8,
+    name: &'n str,
+    store: &mut S,
+) -> Result<Vec<Place>, Trouble<'n>>
+    ensures held { S.held store.new ≡ S.held store.old }
+    ensures known { IfOk result (λ places. All (IsKnown nodes) places.items) }
+    ensures read { ReadAs (S.held store.old) (places_plan nodes name.entry.now) (λ places. places.items)
+        (reads (S.faults store.old) (S.failed store.old)) (reads (S.faults store.new) (S.failed store.new)) result }
+{
+    let too_long = Complaint::BadPlaces(name, PlacesCause::TooLong);
+    let read = match read_file(alloc, name, MOST_PLACES_BYTES, too_long, store) {
+        Ok(bytes) => places_text::read(alloc, nodes, bytes.as_slice()),
+        Err(trouble) => return Err(trouble),
+    };
+    match read {
+        Ok(places) => Ok(places),
+        Err(PlacesFault::NoMemory) => Err(Trouble::NoMemory),
+        Err(fault) => Err(Trouble::Refused(Complaint::BadPlaces(name, PlacesCause::Faulty(fault)))),
     }
 }

@@ -8,9 +8,9 @@ mod reports;
 mod status;
 mod trouble;
 
-pub use files::{read_file, read_image, read_images, read_moves, read_scenario, read_source};
+pub use files::{read_file, read_image, read_images, read_moves, read_places, read_scenario, read_source};
 pub use reports::{report, tell};
 pub use status::Status;
 pub use trouble::{
-    Complaint, ImageCause, MovesCause, ScenarioCause, SourceCause, StateCause, Trouble,
+    Complaint, ImageCause, MovesCause, PlacesCause, ScenarioCause, SourceCause, StateCause, Trouble,
 };

@@ -1,12 +1,12 @@
 // What is said on the error stream.
 ghost use Rattle.std.specs.Prelude.{[], ◌≡◌, ◌≤◌, ◌+◌, ◌++◌, codes, length};
 ghost use Rattle.arrayvec.specs.ArrayString.{array_string_len};
-ghost use Rattle.command_plans.specs.Ends.{cause_text, line_due, moves_cause_text, place_text, scenario_cause_text, source_cause_text, state_cause_text, status_due, stream};
+ghost use Rattle.command_plans.specs.Ends.{cause_text, line_due, moves_cause_text, place_text, places_cause_text, scenario_cause_text, source_cause_text, state_cause_text, status_due, stream};
 ghost use Rattle.command_plans.specs.Parts.{end_at, end_of, LineSaid, Reported, Told};
 
 use crate::Status;
 use crate::trouble::{
-    Complaint, ImageCause, MovesCause, ScenarioCause, SourceCause, StateCause, Trouble,
+    Complaint, ImageCause, MovesCause, PlacesCause, ScenarioCause, SourceCause, StateCause, Trouble,
 };
 use arrayvec::ArrayString;
 use sim_io::{Sink, SinkFault, put_decimal, write_all};
@@ -105,6 +105,18 @@ fn moves_cause(cause: MovesCause) -> (&'static str, Option<usize>)
     }
 }
 
+// Why the places that are to be watched are refused, and in which line of them.
+#[tactic(auto, unfolding(crate::specs::Ends::places_cause_text, crate::specs::Ends::place_text))]
+fn places_cause(cause: PlacesCause) -> (&'static str, Option<usize>)
+    ensures text { result.0.now ++ place_text result.1 ≡ places_cause_text cause }
+    ensures short { length result.0.now ≤ 15 }
+{
+    match cause {
+        PlacesCause::TooLong => ("TooLong", None),
+        PlacesCause::Faulty(fault) => (fault.name(), fault.line()),
+    }
+}
+
 // What stands behind the name of a file that is refused: what it is, why, and in which line.
 fn put_refusal(what: &str, cause: (&'static str, Option<usize>), after: &mut ArrayString<64>)
     requires empty { after.old.bytes ≡ [] }
@@ -153,6 +165,10 @@ fn line_at<'n>(trouble: Trouble<'n>, after: &mut ArrayString<64>) -> (&'static s
             put_refusal(": moves refused: ", moves_cause(cause), after);
             ("avrora: ", name)
         }
+        Trouble::Refused(Complaint::BadPlaces(name, cause)) => {
+            put_refusal(": places refused: ", places_cause(cause), after);
+            ("avrora: ", name)
+        }
     }
 }
 
@@ -169,6 +185,7 @@ fn status_at(trouble: Trouble) -> Status
         Trouble::Refused(Complaint::BadSource(_, _)) => Status::BadSource,
         Trouble::Refused(Complaint::BadState(_, _)) => Status::BadState,
         Trouble::Refused(Complaint::BadMoves(_, _)) => Status::BadState,
+        Trouble::Refused(Complaint::BadPlaces(_, _)) => Status::BadState,
     }
 }
 

@@ -21,7 +21,8 @@ pub enum Status {
     NoMemory,
     /// The source is refused.
     BadSource,
-    /// A saved state is refused, or cannot be had, or the moves of a sweep are refused.
+    /// A saved state is refused, or cannot be had; or the moves of a sweep are refused, or the places that are to be
+    /// watched.
     BadState,
 }
 

@@ -2,6 +2,7 @@
 use asm_text::AsmFault;
 use ihex_loader::HexFault;
 use moves_text::MovesFault;
+use places_text::PlacesFault;
 use scenario_file::ScenarioFault;
 use state_text::StateFault;
 
@@ -55,6 +56,15 @@ pub enum MovesCause {
     Faulty(MovesFault),
 }
 
+/// Why the places that are to be watched are refused.
+#[derive(Clone, Copy)]
+pub enum PlacesCause {
+    /// Their text has more than 131,072 bytes.
+    TooLong,
+    /// The first thing that is wrong with their text.
+    Faulty(PlacesFault),
+}
+
 /// What is refused.
 #[derive(Clone, Copy)]
 pub enum Complaint<'n> {
@@ -70,6 +80,8 @@ pub enum Complaint<'n> {
     BadState(&'n str, StateCause),
     /// The moves of a sweep in this file.
     BadMoves(&'n str, MovesCause),
+    /// The places that are to be watched in this file.
+    BadPlaces(&'n str, PlacesCause),
 }
 
 /// Why a call stops short.

@@ -1,12 +1,12 @@
 -- The forms of accepted words, told apart.
-use Rattle.std.proofs.Common.{◌≡◌, ℕ, arith, nat_le, ◌&&◌, if◌then◌else◌, Bool, true, false, option_map, List, Option, Some, None, [], ◌∷◌, codes, refl, sym}
+use Rattle.std.proofs.Common.{◌≡◌, ℕ, ◌≤◌, arith, nat_le, ◌&&◌, if◌then◌else◌, Bool, true, false, option_map, List, Option, Some, None, [], ◌∷◌, codes, refl, sym}
 use Rattle.std.proofs.lemmas.Bool.{and_parts}
 use Rattle.std.proofs.lemmas.Bool.Decides.{nat_tests}
 use Rattle.std.proofs.lemmas.Slice.Eq.{bytes_eq-Decides}
 use Rattle.std.specs.Prelude.{IfSome}
 use Rattle.air_base.specs.Bounds.{LAST_CYCLE}
 use Rattle.command_words.specs.declared.command.Command.{Command}
-use Rattle.command_words.specs.Words.{Asked, Node, Run, RunPlain, Monitor, Sniff, Check, Disasm, Asm, Make, Head, Save, Resume, HeadOn, SaveOn, MonitorSpan, Sweep, Look, LookOn, as_make, as_plain_run, as_resume, as_span, as_sweep, asked_by, cycles_of, epochs_of, bound_of, file_behind, in_order, is_file, is_word, or_else, sample_of, shown, span_of, with_number, with_state, IsInLimits}
+use Rattle.command_words.specs.Words.{Asked, Node, Run, RunPlain, Monitor, Sniff, Check, Disasm, Asm, Make, Head, Save, Resume, HeadOn, SaveOn, MonitorSpan, Sweep, Look, LookOn, Watch, WatchOn, WatchSweep, as_make, as_plain_run, as_resume, as_span, as_sweep, as_watch, as_watch_on, as_watch_sweep, asked_by, cycles_of, epochs_of, bound_of, file_behind, in_order, is_file, is_word, or_else, sample_of, shown, span_of, with_number, with_state, IsInLimits}
 use Rattle.command_words.proofs.Numerals.{number_limits}
 
 -- the two numbers of a span
@@ -35,6 +35,11 @@ pub data Form : List (List ℕ) → Asked → Type 0 where
   IsSweep : (file state moves : List ℕ) → is_file file ≡ true → is_file state ≡ true → is_file moves ≡ true → Form (codes "sweep" ∷ file ∷ state ∷ moves ∷ []) (Sweep file state moves)
   IsLook : (file cycle : List ℕ) (n : ℕ) → is_file file ≡ true → bound_of cycle ≡ Some n → Form (codes "look" ∷ file ∷ cycle ∷ []) (Look file n)
   IsLookOn : (file cycle state : List ℕ) (n : ℕ) → is_file file ≡ true → bound_of cycle ≡ Some n → is_file state ≡ true → Form (codes "look" ∷ file ∷ cycle ∷ state ∷ []) (LookOn file n state)
+  IsWatch : (file from to places : List ℕ) (a b : ℕ) → is_file file ≡ true → is_file places ≡ true → Span from to a b → Form (codes "watch" ∷ file ∷ from ∷ to ∷ places ∷ []) (Watch file a b places)
+  IsWatchOn : (file from to places state : List ℕ) (a b : ℕ) → is_file file ≡ true → is_file places ≡ true → is_file state ≡ true → Span from to a b
+      → Form (codes "watch" ∷ file ∷ from ∷ to ∷ places ∷ state ∷ []) (WatchOn file a b places state)
+  IsWatchSweep : (file from to places state moves : List ℕ) (a b : ℕ) → is_file file ≡ true → is_file places ≡ true → is_file state ≡ true → is_file moves ≡ true → Span from to a b
+      → Form (codes "watch" ∷ file ∷ from ∷ to ∷ places ∷ state ∷ moves ∷ []) (WatchSweep file a b places state moves)
 
 same : (name word : List ℕ) → is_word name word ≡ true → word ≡ name
 same name word h = (bytes_eq-Decides word name).0 h
@@ -118,6 +123,75 @@ of_span (a ∷ b ∷ []) asked h = absurd (cc)
 of_span (a ∷ b ∷ c ∷ []) asked h = absurd (cc)
 of_span (word ∷ file ∷ from ∷ to ∷ []) asked h = span_form word file from to _ refl _ refl asked h
 of_span (a ∷ b ∷ c ∷ d ∷ e ∷ more) asked h = absurd (cc)
+
+-- what a span's numbers make of it, where the words before and behind it are accepted
+watch_form : (from to : List ℕ) (words : List (List ℕ)) (made : ℕ → ℕ → Asked) (b : Bool) → (b ≡ true → (m n : ℕ) → Span from to m n → Form words (made m n))
+    → (o : Option (ℕ × ℕ)) → o ≡ span_of from to → (asked : Asked) → (if b then option_map (λ p. made p.0 p.1) o else None) ≡ Some asked → Form words asked
+watch_form from to words made false form o f asked h = absurd (cc)
+watch_form from to words made true form None f asked h = absurd (cc)
+watch_form from to words made true form (Some p) f asked h =
+    let a : made p.0 p.1 ≡ asked = cc in
+    rw (← a) (form refl p.0 p.1 (span_given from to p (sym f)))
+
+-- a command, FILE and PLACES
+record Named (word file places : List ℕ) : Type 0 where
+  name : word ≡ codes "watch"
+  file_is : is_file file ≡ true
+  places_is : is_file places ≡ true
+
+named : (word file places : List ℕ) → (is_word (codes "watch") word && is_file file && is_file places) ≡ true → Named word file places
+named word file places e =
+    let p = and_parts (is_word (codes "watch") word && is_file file) (is_file places) e in
+    let q = and_parts (is_word (codes "watch") word) (is_file file) p.0 in
+    record { name = same (codes "watch") word q.0; file_is = q.1; places_is = p.1 }
+
+of_watch : (words : List (List ℕ)) (asked : Asked) → as_watch words ≡ Some asked → Form words asked
+unfolding as_watch
+of_watch [] asked h = absurd (cc)
+of_watch (a ∷ []) asked h = absurd (cc)
+of_watch (a ∷ b ∷ []) asked h = absurd (cc)
+of_watch (a ∷ b ∷ c ∷ []) asked h = absurd (cc)
+of_watch (a ∷ b ∷ c ∷ d ∷ []) asked h = absurd (cc)
+of_watch (word ∷ file ∷ from ∷ to ∷ places ∷ []) asked h =
+    watch_form from to (word ∷ file ∷ from ∷ to ∷ places ∷ []) (λ m n. Watch file m n places) _
+    (λ e m n s. let p = named word file places e in rw p.name (IsWatch file from to places m n p.file_is p.places_is s)) _ refl asked h
+of_watch (a ∷ b ∷ c ∷ d ∷ e ∷ f ∷ more) asked h = absurd (cc)
+
+of_watch_on : (words : List (List ℕ)) (asked : Asked) → as_watch_on words ≡ Some asked → Form words asked
+unfolding as_watch_on
+of_watch_on [] asked h = absurd (cc)
+of_watch_on (a ∷ []) asked h = absurd (cc)
+of_watch_on (a ∷ b ∷ []) asked h = absurd (cc)
+of_watch_on (a ∷ b ∷ c ∷ []) asked h = absurd (cc)
+of_watch_on (a ∷ b ∷ c ∷ d ∷ []) asked h = absurd (cc)
+of_watch_on (a ∷ b ∷ c ∷ d ∷ e ∷ []) asked h = absurd (cc)
+of_watch_on (word ∷ file ∷ from ∷ to ∷ places ∷ state ∷ []) asked h =
+    let all = is_word (codes "watch") word && is_file file && is_file places in
+    watch_form from to (word ∷ file ∷ from ∷ to ∷ places ∷ state ∷ []) (λ m n. WatchOn file m n places state) _
+    (λ e m n s.
+        let q = and_parts all (is_file state) e in
+        let p = named word file places q.0 in
+        rw p.name (IsWatchOn file from to places state m n p.file_is p.places_is q.1 s)) _ refl asked h
+of_watch_on (a ∷ b ∷ c ∷ d ∷ e ∷ f ∷ g ∷ more) asked h = absurd (cc)
+
+of_watch_sweep : (words : List (List ℕ)) (asked : Asked) → as_watch_sweep words ≡ Some asked → Form words asked
+unfolding as_watch_sweep
+of_watch_sweep [] asked h = absurd (cc)
+of_watch_sweep (a ∷ []) asked h = absurd (cc)
+of_watch_sweep (a ∷ b ∷ []) asked h = absurd (cc)
+of_watch_sweep (a ∷ b ∷ c ∷ []) asked h = absurd (cc)
+of_watch_sweep (a ∷ b ∷ c ∷ d ∷ []) asked h = absurd (cc)
+of_watch_sweep (a ∷ b ∷ c ∷ d ∷ e ∷ []) asked h = absurd (cc)
+of_watch_sweep (a ∷ b ∷ c ∷ d ∷ e ∷ f ∷ []) asked h = absurd (cc)
+of_watch_sweep (word ∷ file ∷ from ∷ to ∷ places ∷ state ∷ moves ∷ []) asked h =
+    let all = is_word (codes "watch") word && is_file file && is_file places in
+    watch_form from to (word ∷ file ∷ from ∷ to ∷ places ∷ state ∷ moves ∷ []) (λ m n. WatchSweep file m n places state moves) _
+    (λ e m n s.
+        let r = and_parts (all && is_file state) (is_file moves) e in
+        let q = and_parts all (is_file state) r.0 in
+        let p = named word file places q.0 in
+        rw p.name (IsWatchSweep file from to places state moves m n p.file_is p.places_is q.1 r.1 s)) _ refl asked h
+of_watch_sweep (a ∷ b ∷ c ∷ d ∷ e ∷ f ∷ g ∷ i ∷ more) asked h = absurd (cc)
 
 sweep_form : (word file state moves : List ℕ) (b : Bool) → b ≡ (is_word (codes "sweep") word && is_file file && is_file state && is_file moves) → (asked : Asked)
     → (if b then Some (Sweep file state moves) else None) ≡ Some asked → Form (word ∷ file ∷ state ∷ moves ∷ []) asked
@@ -249,7 +323,15 @@ form_of words asked h =
     (either words asked (as_span words) _ (of_span words asked)
     (either words asked (as_sweep words) _ (of_sweep words asked)
     (either words asked (with_number (codes "look") bound_of Look words) _ (of_number (codes "look") bound_of Look IsLook words asked)
-    (of_state (codes "look") bound_of LookOn IsLookOn words asked))))))))))))))))) h
+    (either words asked (with_state (codes "look") bound_of LookOn words) _ (of_state (codes "look") bound_of LookOn IsLookOn words asked)
+    (either words asked (as_watch words) _ (of_watch words asked)
+    (either words asked (as_watch_on words) _ (of_watch_on words asked)
+    (of_watch_sweep words asked)))))))))))))))))))) h
+
+span_limits : (from to : List ℕ) (a b : ℕ) → Span from to a b → (a ≤ b) × (b ≤ LAST_CYCLE)
+span_limits from to a b s =
+    let order : nat_le a b ≡ true = s.order in
+    (grind (arith, nat_tests), (number_limits 13 0 LAST_CYCLE to b s.to_is).1)
 
 pub in_limits : (words : List (List ℕ)) (asked : Asked) → Form words asked → IsInLimits asked
 in_limits _ _ (IsNode file cycles n f e) = number_limits 8 1 10000000 cycles n e
@@ -266,12 +348,13 @@ in_limits _ _ (IsSave file epochs n f e) = number_limits 7 1 9999999 epochs n e
 in_limits _ _ (IsResume file state f g) = tt
 in_limits _ _ (IsHeadOn file epochs state n f e g) = number_limits 7 1 9999999 epochs n e
 in_limits _ _ (IsSaveOn file epochs state n f e g) = number_limits 7 1 9999999 epochs n e
-in_limits _ _ (IsMonitorSpan file from to a b f s) =
-    let order : nat_le a b ≡ true = s.order in
-    (grind (arith, nat_tests), (number_limits 13 0 LAST_CYCLE to b s.to_is).1)
+in_limits _ _ (IsMonitorSpan file from to a b f s) = span_limits from to a b s
 in_limits _ _ (IsSweep file state moves f g h) = tt
 in_limits _ _ (IsLook file cycle n f e) = (number_limits 13 0 LAST_CYCLE cycle n e).1
 in_limits _ _ (IsLookOn file cycle state n f e g) = (number_limits 13 0 LAST_CYCLE cycle n e).1
+in_limits _ _ (IsWatch file from to places a b f g s) = span_limits from to a b s
+in_limits _ _ (IsWatchOn file from to places state a b f g h s) = span_limits from to a b s
+in_limits _ _ (IsWatchSweep file from to places state moves a b f g h i s) = span_limits from to a b s
 
 -- a command that is what the words ask for
 pub command_in_limits : (words : List (List ℕ)) (command : Option Command) → option_map shown command ≡ asked_by words → IfSome command (λ o. IsInLimits (shown o))

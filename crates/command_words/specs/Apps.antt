@@ -44,6 +44,12 @@ monitor_app = with_rule (with_rule (one_word_app (codes "monitor") (codes "file"
 abbrev pub sweep_app : App
 sweep_app = with_rule (two_words_app (codes "sweep") (codes "state")) (required (codes "moves"))
 
+-- a file, two cycles, a file, and maybe one or two more
+abbrev pub watch_app : App
+watch_app =
+    with_rule (with_rule (with_rule (with_rule (two_words_app (codes "watch") (codes "from")) (required (codes "to"))) (required (codes "places")))
+    (optional (codes "state"))) (optional (codes "moves"))
+
 -- the words begin behind the program's name
 abbrev pub without_first : App → App
 without_first a = record a { top = record a.top { no_binary_name = true } }
@@ -70,8 +76,12 @@ cutting app =
     with_subcommand (with_subcommand (with_subcommand (with_subcommand app (cut_app (codes "head") (codes "epochs")).top) (cut_app (codes "save") (codes "epochs")).top)
     (two_words_app (codes "resume") (codes "state")).top) sweep_app.top
 
+-- and the one that watches places
+abbrev pub placing : App → App
+placing app = with_subcommand app watch_app.top
+
 abbrev pub the_app : App
-the_app = cutting (reading (watching (simulating (without_first (new_app (codes "avrora"))))))
+the_app = placing (cutting (reading (watching (simulating (without_first (new_app (codes "avrora")))))))
 
 -- where a subcommand could be made, it is this one, and none of its words is global
 abbrev pub MakesLeaf : App → Result Command AllocError → Type 0

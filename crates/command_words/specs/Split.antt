@@ -3,7 +3,7 @@ use Rattle.std.specs.Prelude.{ℕ, List, [], codes, Option, Some, None, option_m
 use Rattle.std.specs.Option.{option_map_or}
 use Rattle.std.specs.Str.{bytes_eq}
 use Rattle.clap.specs.Words.{Row, Text, first_of}
-use Rattle.command_words.specs.Words.{Asked, Node, Run, RunPlain, Monitor, Sniff, Check, Disasm, Asm, Make, Head, Save, Resume, HeadOn, SaveOn, MonitorSpan, Sweep, Look, LookOn, bound_of, cycles_of, epochs_of, sample_of, span_of}
+use Rattle.command_words.specs.Words.{Asked, Node, Run, RunPlain, Monitor, Sniff, Check, Disasm, Asm, Make, Head, Save, Resume, HeadOn, SaveOn, MonitorSpan, Sweep, Look, LookOn, Watch, WatchOn, WatchSweep, bound_of, cycles_of, epochs_of, sample_of, span_of}
 
 -- the word of this name, or no text
 abbrev pub text_in : Text → List Row → Text
@@ -45,6 +45,17 @@ within_in file (Some from) to = option_map (λ span. MonitorSpan file span.0 spa
 abbrev pub monitor_in : List Row → Option Asked
 monitor_in rows = within_in (text_in (codes "file") rows) (first_of (codes "from") rows) (text_in (codes "to") rows)
 
+-- from reset, from a state where one is given, and over moves where they are
+abbrev pub watched_in : List ℕ → List ℕ → Option Text → Option Text → ℕ × ℕ → Asked
+watched_in file places None moves span = Watch file span.0 span.1 places
+watched_in file places (Some state) None span = WatchOn file span.0 span.1 places state
+watched_in file places (Some state) (Some moves) span = WatchSweep file span.0 span.1 places state moves
+
+abbrev pub watch_in : List Row → Option Asked
+watch_in rows =
+    option_map (watched_in (text_in (codes "file") rows) (text_in (codes "places") rows) (first_of (codes "state") rows) (first_of (codes "moves") rows))
+    (span_of (text_in (codes "from") rows) (text_in (codes "to") rows))
+
 -- what a subcommand that cuts a run, or goes on with one, asks for with these words
 unfoldable pub cut_in : Text → List Row → Option Asked
 cut_in name rows =
@@ -62,12 +73,13 @@ read_in name rows =
     else if bytes_eq name (codes "asm") then Some (Asm (text_in (codes "file") rows))
     else cut_in name rows
 
--- what a subcommand that watches a run asks for with these words, or one of those that simulate nothing
-unfoldable pub watch_in : Text → List Row → Option Asked
-watch_in name rows =
+-- what a subcommand that looks into a run asks for with these words, or one of those that simulate nothing
+unfoldable pub seeing_in : Text → List Row → Option Asked
+seeing_in name rows =
     if bytes_eq name (codes "monitor") then monitor_in rows
     else if bytes_eq name (codes "sniff") then Some (Sniff (text_in (codes "file") rows))
     else if bytes_eq name (codes "look") then look_in rows
+    else if bytes_eq name (codes "watch") then watch_in rows
     else read_in name rows
 
 -- what any subcommand asks for with these words
@@ -76,7 +88,7 @@ asked_in name rows =
     if bytes_eq name (codes "run") then Some (run_in rows)
     else if bytes_eq name (codes "make") then make_in rows
     else if bytes_eq name (codes "node") then node_in rows
-    else watch_in name rows
+    else seeing_in name rows
 
 unfoldable pub asked_of : Option (Text × List Row) → Option Asked
 asked_of None = None

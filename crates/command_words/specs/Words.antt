@@ -49,6 +49,13 @@ pub data Asked : Type 0 where
   Look : (file : List ℕ) (cycle : ℕ) → Asked
   -- the same from the state in that file on
   LookOn : (file : List ℕ) (cycle : ℕ) (state : List ℕ) → Asked
+  -- simulate the network of the scenario in this file, and write what is seen at the places in that file, in the cycles
+  -- from one on and below another
+  Watch : (file : List ℕ) (from to : ℕ) (places : List ℕ) → Asked
+  -- the same from the state in the last file on
+  WatchOn : (file : List ℕ) (from to : ℕ) (places state : List ℕ) → Asked
+  -- the same once for each line of the last file, with the input that the line says
+  WatchSweep : (file : List ℕ) (from to : ℕ) (places state moves : List ℕ) → Asked
 
 -- what the code's value asks for
 abbrev pub shown : Command → Asked
@@ -70,6 +77,9 @@ shown (variant.MonitorSpan file from to) = MonitorSpan file.now from to
 shown (variant.Sweep file state moves) = Sweep file.now state.now moves.now
 shown (variant.Look file cycle) = Look file.now cycle
 shown (variant.LookOn file cycle state) = LookOn file.now cycle state.now
+shown (variant.Watch file from to places) = Watch file.now from to places.now
+shown (variant.WatchOn file from to places state) = WatchOn file.now from to places.now state.now
+shown (variant.WatchSweep file from to places state moves) = WatchSweep file.now from to places.now state.now moves.now
 
 abbrev pub is_word : List ℕ → List ℕ → Bool
 is_word name word = pointwise ◌==◌ word name
@@ -161,6 +171,26 @@ as_sweep (command ∷ file ∷ state ∷ moves ∷ []) =
     if is_word (codes "sweep") command && is_file file && is_file state && is_file moves then Some (Sweep file state moves) else None
 as_sweep _ = None
 
+-- `watch FILE FROM TO PLACES`, with STATE behind it, and with STATE and MOVES
+unfoldable pub as_watch : List (List ℕ) → Option Asked
+as_watch (command ∷ file ∷ from ∷ to ∷ places ∷ []) =
+    if is_word (codes "watch") command && is_file file && is_file places then option_map (λ span. Watch file span.0 span.1 places) (span_of from to)
+    else None
+as_watch _ = None
+
+unfoldable pub as_watch_on : List (List ℕ) → Option Asked
+as_watch_on (command ∷ file ∷ from ∷ to ∷ places ∷ state ∷ []) =
+    if is_word (codes "watch") command && is_file file && is_file places && is_file state then option_map (λ span. WatchOn file span.0 span.1 places state) (span_of from to)
+    else None
+as_watch_on _ = None
+
+unfoldable pub as_watch_sweep : List (List ℕ) → Option Asked
+as_watch_sweep (command ∷ file ∷ from ∷ to ∷ places ∷ state ∷ moves ∷ []) =
+    if is_word (codes "watch") command && is_file file && is_file places && is_file state && is_file moves
+    then option_map (λ span. WatchSweep file span.0 span.1 places state moves) (span_of from to)
+    else None
+as_watch_sweep _ = None
+
 abbrev pub or_else : Option Asked → Option Asked → Option Asked
 or_else (Some asked) other = Some asked
 or_else None other = other
@@ -185,7 +215,10 @@ asked_by words =
     (or_else (as_span words)
     (or_else (as_sweep words)
     (or_else (with_number (codes "look") bound_of Look words)
-    (with_state (codes "look") bound_of LookOn words)))))))))))))))))
+    (or_else (with_state (codes "look") bound_of LookOn words)
+    (or_else (as_watch words)
+    (or_else (as_watch_on words)
+    (as_watch_sweep words))))))))))))))))))))
 
 -- the number of cycles, where there is one, is from 1 to 10,000,000, that of a sample at most 65,535, that of epochs
 -- from 1 to 9,999,999, a cycle that is looked at at most 1,099,511,627,776, and a span ends not before it begins and at
@@ -209,3 +242,6 @@ IsInLimits (MonitorSpan file from to) = (from ≤ to) × (to ≤ LAST_CYCLE)
 IsInLimits (Sweep file state moves) = Unit {0}
 IsInLimits (Look file cycle) = cycle ≤ LAST_CYCLE
 IsInLimits (LookOn file cycle state) = cycle ≤ LAST_CYCLE
+IsInLimits (Watch file from to places) = (from ≤ to) × (to ≤ LAST_CYCLE)
+IsInLimits (WatchOn file from to places state) = (from ≤ to) × (to ≤ LAST_CYCLE)
+IsInLimits (WatchSweep file from to places state moves) = (from ≤ to) × (to ≤ LAST_CYCLE)

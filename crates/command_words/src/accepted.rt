@@ -43,6 +43,51 @@ fn is_quadruple(command: &str, first: &str, second: &str, third: &str) -> bool
     }
 }
 
+// Whether the words behind the name of a command that takes four are accepted.
+fn is_quintuple(command: &str, file: &str, from: &str, to: &str, places: &str) -> bool
+    ensures { result ≡ is_some (asked_by (command.now ∷ file.now ∷ from.now ∷ to.now ∷ places.now ∷ [])) }
+{
+    (command == "watch") & is_file(file) & is_file(places) & span(from, to).is_some()
+}
+
+// Whether the words behind the name of a command that takes five are accepted.
+fn is_sextuple(
+    command: &str,
+    file: &str,
+    from: &str,
+    to: &str,
+    places: &str,
+    state: &str,
+) -> bool
+    ensures { result ≡ is_some (asked_by (command.now ∷ file.now ∷ from.now ∷ to.now ∷ places.now ∷ state.now ∷ [])) }
+{
+    (command == "watch")
+        & is_file(file)
+        & is_file(places)
+        & is_file(state)
+        & span(from, to).is_some()
+}
+
+// Whether the words behind the name of a command that takes six are accepted.
+fn is_septuple(
+    command: &str,
+    file: &str,
+    from: &str,
+    to: &str,
+    places: &str,
+    state: &str,
+    moves: &str,
+) -> bool
+    ensures { result ≡ is_some (asked_by (command.now ∷ file.now ∷ from.now ∷ to.now ∷ places.now ∷ state.now ∷ moves.now ∷ [])) }
+{
+    (command == "watch")
+        & is_file(file)
+        & is_file(places)
+        & is_file(state)
+        & is_file(moves)
+        & span(from, to).is_some()
+}
+
 /// Whether the words after the program's name are accepted.
 pub fn is_accepted(words: &[&str]) -> bool
     ensures { result ≡ is_some (asked_by (map (λ w. w.now) words.now)) }
@@ -51,6 +96,13 @@ pub fn is_accepted(words: &[&str]) -> bool
         [command, word] => is_pair(command, word),
         [command, first, second] => is_triple(command, first, second),
         [command, first, second, third] => is_quadruple(command, first, second, third),
+        [command, file, from, to, places] => is_quintuple(command, file, from, to, places),
+        [command, file, from, to, places, state] => {
+            is_sextuple(command, file, from, to, places, state)
+        }
+        [command, file, from, to, places, state, moves] => {
+            is_septuple(command, file, from, to, places, state, moves)
+        }
         _ => false,
     }
 }

@@ -26,7 +26,7 @@ struct Form {
 }
 
 // The forms, but for `run` with and without its flag, which are one.
-static FORMS: [Form; 13] = [
+static FORMS: [Form; 14] = [
     Form {
         name: "node",
         words: &[Word::Required("file"), Word::Required("cycles")],
@@ -97,6 +97,17 @@ static FORMS: [Form; 13] = [
             Word::Required("file"),
             Word::Required("state"),
             Word::Required("moves"),
+        ],
+    },
+    Form {
+        name: "watch",
+        words: &[
+            Word::Required("file"),
+            Word::Required("from"),
+            Word::Required("to"),
+            Word::Required("places"),
+            Word::Optional("state"),
+            Word::Optional("moves"),
         ],
     },
 ];

@@ -97,4 +97,31 @@ pub enum Command<'w> {
         state: &'w str,
         moves: &'w str,
     },
+    /// `watch FILE FROM TO PLACES`: simulate the network of this scenario up to a cycle, and write what is seen at the
+    /// places of the second file in the cycles from another one on, which is not the higher one; both at most
+    /// 1,099,511,627,776.
+    Watch {
+        file: &'w str,
+        from: u64,
+        to: u64,
+        places: &'w str,
+    },
+    /// `watch FILE FROM TO PLACES STATE`: the same from the state in the third file on.
+    WatchOn {
+        file: &'w str,
+        from: u64,
+        to: u64,
+        places: &'w str,
+        state: &'w str,
+    },
+    /// `watch FILE FROM TO PLACES STATE MOVES`: the same once for each line of the fourth file, with the input that the
+    /// line says in place of that of a node.
+    WatchSweep {
+        file: &'w str,
+        from: u64,
+        to: u64,
+        places: &'w str,
+        state: &'w str,
+        moves: &'w str,
+    },
 }

@@ -2,7 +2,7 @@
 ghost use Rattle.std.specs.Prelude.{◌≡◌, option_map};
 ghost use Rattle.clap.specs.Words.{first_of, found_of, rows_of, subcommand_rows_of};
 ghost use Rattle.command_words.specs.Words.{shown};
-ghost use Rattle.command_words.specs.Split.{asked_in, asked_of, cut_in, head_in, look_in, make_in, monitor_in, node_in, read_in, run_in, save_in, text_in, watch_in};
+ghost use Rattle.command_words.specs.Split.{asked_in, asked_of, cut_in, head_in, look_in, make_in, monitor_in, node_in, read_in, run_in, save_in, seeing_in, text_in, watch_in, watched_in};
 
 use crate::Command;
 use crate::operands::{bound, cycles, epochs, sample, span};
@@ -81,6 +81,44 @@ fn look_command<'w>(matches: &ArgMatches<'w>) -> Option<Command<'w>>
     }
 }
 
+// `watch` from reset, from a state, or over moves from one.
+fn watched<'w>(
+    file: &'w str,
+    from: u64,
+    to: u64,
+    places: &'w str,
+    state: Option<&'w str>,
+    moves: Option<&'w str>,
+) -> Command<'w>
+    ensures { shown result ≡ watched_in file.now places.now (option_map (λ s. s.now) state.entry) (option_map (λ s. s.now) moves.entry) (from, to) }
+{
+    match state {
+        None => Command::Watch {
+            file,
+            from,
+            to,
+            places,
+        },
+        Some(state) => match moves {
+            None => Command::WatchOn {
+                file,
+                from,
+                to,
+                places,
+                state,
+            },
+            Some(moves) => Command::WatchSweep {
+                file,
+                from,
+                to,
+                places,
+                state,
+                moves,
+            },
+        },
+    }
+}
+
 fn monitor_command<'w>(matches: &ArgMatches<'w>) -> Option<Command<'w>>
     ensures { option_map shown result ≡ monitor_in (rows_of (found_of matches.now)) }
 {
@@ -91,6 +129,19 @@ fn monitor_command<'w>(matches: &ArgMatches<'w>) -> Option<Command<'w>>
             None => None,
         },
         None => Some(Command::Monitor { file }),
+    }
+}
+
+fn watch_command<'w>(matches: &ArgMatches<'w>) -> Option<Command<'w>>
+    ensures { option_map shown result ≡ watch_in (rows_of (found_of matches.now)) }
+{
+    let file = text_at(matches, "file");
+    let places = text_at(matches, "places");
+    let state = word_at(matches, "state");
+    let moves = word_at(matches, "moves");
+    match span(text_at(matches, "from"), text_at(matches, "to")) {
+        Some((from, to)) => Some(watched(file, from, to, places, state, moves)),
+        None => None,
     }
 }
 
@@ -129,10 +180,10 @@ fn reading_in<'w>(name: &str, matches: &ArgMatches<'w>) -> Option<Command<'w>>
     }
 }
 
-// What a subcommand that watches a run asks for, or one of those that simulate nothing.
-#[tactic(auto, unfolding(crate::specs::Split::watch_in))]
-fn watching_in<'w>(name: &str, matches: &ArgMatches<'w>) -> Option<Command<'w>>
-    ensures { option_map shown result ≡ watch_in name.now (rows_of (found_of matches.now)) }
+// What a subcommand that looks into a run asks for, or one of those that simulate nothing.
+#[tactic(auto, unfolding(crate::specs::Split::seeing_in))]
+fn seeing_in<'w>(name: &str, matches: &ArgMatches<'w>) -> Option<Command<'w>>
+    ensures { option_map shown result ≡ seeing_in name.now (rows_of (found_of matches.now)) }
 {
     match name {
         "monitor" => monitor_command(matches),
@@ -140,6 +191,7 @@ fn watching_in<'w>(name: &str, matches: &ArgMatches<'w>) -> Option<Command<'w>>
             file: text_at(matches, "file"),
         }),
         "look" => look_command(matches),
+        "watch" => watch_command(matches),
         _ => reading_in(name, matches),
     }
 }
@@ -171,7 +223,7 @@ fn command_in<'w>(name: &str, matches: &ArgMatches<'w>) -> Option<Command<'w>>
         "run" => Some(run_command(matches)),
         "make" => make_command(matches),
         "node" => node_command(matches),
-        _ => watching_in(name, matches),
+        _ => seeing_in(name, matches),
     }
 }
 

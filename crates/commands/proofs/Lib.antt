@@ -16,3 +16,7 @@ pub mod Onwards
 pub mod Coming
 -- What is read for a sweep, and the runs that it writes one behind another.
 pub mod SweepRuns
+-- What is read for `watch`: places that are watched, and a state from which they are.
+pub mod Placed
+-- What is seen of a run, written piece by piece.
+pub mod Changing

@@ -15,7 +15,7 @@ use Rattle.command_plans.specs.Ends.{End, Reads, Stream}
 use Rattle.command_plans.specs.Parts.{StopsAt}
 use Rattle.command_plans.proofs.Steps.{both, goes_on, stops_on, stops_moved, stops_behind, reached_moved, through}
 use Rattle.commands.specs.Network.{network_of}
-use Rattle.commands.specs.Plan.{cut_or, cut_plan, images_for, network_plan, span_or, span_plan}
+use Rattle.commands.specs.Plan.{cut_or, cut_plan, images_for, network_plan, span_or, span_plan, up_to_or, up_to_plan}
 use Rattle.commands.specs.Parts.{HasGot, HasRead, IsShort, Ready, output}
 use Rattle.commands.specs.declared.job.Job.{Job}
 
@@ -63,6 +63,24 @@ module _ (files : Files) (name : List ℕ) (from to : ℕ) (parts : ScenarioPart
   span_refused h =
       through files (and_then (scenario_plan name) (span_or name from to)) (Refuse (BadScenario name (scenario_cause.Faulty OutOfRange))) images_for
       (subst (λ (b : Bool). Reached files (and_then (scenario_plan name) (span_or name from to)) (Spanned b)) (not_within to parts.topology.limit h) spanned)
+
+-- ---- a network that is watched
+
+module _ (files : Files) (name : List ℕ) (to : ℕ) (parts : ScenarioParts) (reached : Reached files (scenario_plan name) (Give parts)) where
+  abbrev Topped : Bool → Plan ScenarioParts
+  Topped b = if b then Give parts else Refuse (BadScenario name (scenario_cause.Faulty OutOfRange))
+
+  topped : Reached files (and_then (scenario_plan name) (up_to_or name to)) (up_to_or name to parts)
+  topped = goes_on files (scenario_plan name) parts (up_to_or name to) reached
+
+  pub up_to_reached : to ≤ parts.topology.limit → Reached files (and_then (scenario_plan name) (up_to_or name to)) (Give parts)
+  up_to_reached h = subst (λ (b : Bool). Reached files (and_then (scenario_plan name) (up_to_or name to)) (Topped b)) (within to parts.topology.limit h) topped
+
+  pub up_to_refused : parts.topology.limit < to → Reached files (up_to_plan name to) (Refuse (BadScenario name (scenario_cause.Faulty OutOfRange)))
+  unfolding and_then
+  up_to_refused h =
+      through files (and_then (scenario_plan name) (up_to_or name to)) (Refuse (BadScenario name (scenario_cause.Faulty OutOfRange))) images_for
+      (subst (λ (b : Bool). Reached files (and_then (scenario_plan name) (up_to_or name to)) (Topped b)) (not_within to parts.topology.limit h) topped)
 
 -- ---- a network whose run is cut
 

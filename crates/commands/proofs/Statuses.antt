@@ -1,7 +1,7 @@
 -- What each status says of a call.
 use Rattle.std.proofs.Common.{◌≡◌, ◌≢◌, ◌⊎◌, ℕ, ◌+◌, ◌*◌, nat_le, nat_lt, Bool, if◌then◌else◌, List, Option, Some, None, is_some, true, false, Result, Ok, Err, inl, inr, refl, sym, ap, ◌∙◌, subst}
 use Rattle.sim_io.specs.Outside.{Rose}
-use Rattle.command_words.specs.Words.{Asked, Node, Run, RunPlain, Monitor, Sniff, Check, Disasm, Asm, Make, Head, Save, Resume, HeadOn, SaveOn, MonitorSpan, Sweep, Look, LookOn, asked_by, shown}
+use Rattle.command_words.specs.Words.{Asked, Node, Run, RunPlain, Monitor, Sniff, Check, Disasm, Asm, Make, Head, Save, Resume, HeadOn, SaveOn, MonitorSpan, Sweep, Look, LookOn, Watch, WatchOn, WatchSweep, asked_by, shown}
 use Rattle.command_words.specs.declared.command.Command.{Command}
 use Rattle.world_core.specs.Kept.{epoch}
 use Rattle.scenario_file.specs.Scenario.{ScenarioParts}
@@ -12,7 +12,7 @@ use Rattle.checkpoint_text.specs.State.{counts_fit, state_in}
 use Rattle.state_text.specs.Text.{StateOf}
 use Rattle.state_text.specs.declared.fault.StateFault.{StateFault}
 use Rattle.state_text.specs.declared.fault.StateFault.TheVariants.{PastEnd}
-use Rattle.command_plans.specs.Plan.{Plan, Give, Refuse, Refusal, BadWords, BadScenario, BadImage, BadSource, BadState, BadMoves, and_then, image_plan, images_plan, moves_plan, scenario_plan, source_plan}
+use Rattle.command_plans.specs.Plan.{Plan, Give, Refuse, Refusal, BadWords, BadScenario, BadImage, BadSource, BadState, BadMoves, BadPlaces, and_then, image_plan, images_plan, moves_plan, places_plan, scenario_plan, source_plan}
 use Rattle.command_plans.specs.Reading.{Files, Reached, Here, Verdict, Untold, Refused as RefusedVerdict, Accepted, Says, verdict}
 use Rattle.command_plans.specs.Ends.{Ends, End, Done, OutFailed, NoMemory, ReadFailed, Refused, Reads, Stream, status_due, EndedSaying, EndedUnsaid, HasStatus}
 use Rattle.command_plans.specs.Parts.{Told, Said, Unsaid, Reported, Stopped, Written, end_of}
@@ -23,11 +23,12 @@ use Rattle.command_plans.specs.declared.trouble.ScenarioCause.TheVariants as sce
 use Rattle.command_plans.specs.declared.trouble.SourceCause.{SourceCause}
 use Rattle.command_plans.specs.declared.trouble.StateCause.{StateCause}
 use Rattle.command_plans.specs.declared.trouble.MovesCause.{MovesCause}
+use Rattle.command_plans.specs.declared.trouble.PlacesCause.{PlacesCause}
 use Rattle.command_plans.specs.declared.trouble.StateCause.TheVariants as cause
 use Rattle.command_plans.specs.declared.status.Status.{Status}
 use Rattle.command_plans.specs.declared.status.Status.TheVariants as case
-use Rattle.command_plans.proofs.Endings.{KeepsWords, ends_written, ends_stopped, keeps_both, keeps_image, keeps_images, keeps_moves, keeps_reached, keeps_scenario, keeps_source, reported_stop, state_is_no_words}
-use Rattle.commands.specs.Plan.{begun_plan, come_or, cut_on_or, cut_on_plan, cut_plan, images_for, look_from_or, look_from_plan, look_plan, network_plan, plan, plan_for, plan_of, span_or, span_plan, state_or, state_plan, sweep_plan}
+use Rattle.command_plans.proofs.Endings.{KeepsWords, ends_written, ends_stopped, keeps_both, keeps_image, keeps_images, keeps_moves, keeps_places, keeps_reached, keeps_scenario, keeps_source, reported_stop, state_is_no_words}
+use Rattle.commands.specs.Plan.{begun_plan, come_or, cut_on_or, cut_on_plan, cut_plan, images_for, look_from_or, look_from_plan, look_plan, network_plan, plan, plan_for, plan_of, span_or, span_plan, state_or, state_plan, sweep_plan, up_to_or, up_to_plan, watch_begun_plan, watch_from_or, watch_on_plan, watch_plan, watch_sweep_plan}
 use Rattle.commands.specs.TopClause.{TopClause}
 use Rattle.commands.specs.Parts.{JobRead, Prepared, Prepares, Ready, output}
 use Rattle.commands.specs.declared.job.Job.{Job}
@@ -99,6 +100,32 @@ keeps_sweep : (file state name : List ℕ) → KeepsWords (sweep_plan file state
 keeps_sweep file state name =
     keeps_both (begun_plan file state) _ (keeps_begun file state) (λ begun. keeps_both (moves_plan begun.0.topo.nodes name) _ (keeps_moves begun.0.topo.nodes name) (λ moves. tt))
 
+keeps_up_to : (name : List ℕ) (to : ℕ) → KeepsWords (up_to_plan name to)
+keeps_up_to name to =
+    keeps_both (and_then (scenario_plan name) (up_to_or name to)) images_for
+    (keeps_both (scenario_plan name) (up_to_or name to) (keeps_scenario name)
+    (λ parts. keeps_if (nat_le to parts.topology.limit) _ _ (past_run_is_no_words name (scenario_cause.Faulty OutOfRange))))
+    keeps_images_for
+
+keeps_watch : (file : List ℕ) (to : ℕ) (name : List ℕ) → KeepsWords (watch_plan file to name)
+keeps_watch file to name =
+    keeps_both (up_to_plan file to) _ (keeps_up_to file to)
+    (λ network. keeps_both (places_plan network.topo.nodes name) _ (keeps_places network.topo.nodes name) (λ places. tt))
+
+keeps_watch_begun : (file : List ℕ) (to : ℕ) (places name : List ℕ) → KeepsWords (watch_begun_plan file to places name)
+keeps_watch_begun file to places name =
+    keeps_both (watch_plan file to places) _ (keeps_watch file to places) (λ it. keeps_both (state_plan it.0 name) _ (keeps_state it.0 name) (λ state. tt))
+
+keeps_watch_on : (file : List ℕ) (from to : ℕ) (places name : List ℕ) → KeepsWords (watch_on_plan file from to places name)
+keeps_watch_on file from to places name =
+    keeps_both (watch_begun_plan file to places name) (watch_from_or name from) (keeps_watch_begun file to places name)
+    (λ it. keeps_unless (nat_lt from it.1.cycle) _ _ (state_is_no_words name cause.PastCycle) tt)
+
+keeps_watch_sweep : (file : List ℕ) (from to : ℕ) (places state name : List ℕ) → KeepsWords (watch_sweep_plan file from to places state name)
+keeps_watch_sweep file from to places state name =
+    keeps_both (watch_on_plan file from to places state) _ (keeps_watch_on file from to places state)
+    (λ it. keeps_both (moves_plan it.0.0.topo.nodes name) _ (keeps_moves it.0.0.topo.nodes name) (λ moves. tt))
+
 keeps_plan : (asked : Asked) → KeepsWords (plan_of asked)
 unfolding plan_of
 keeps_plan (Node file cycles) = keeps_both (image_plan file) _ (keeps_image file) (λ flash. tt)
@@ -120,6 +147,10 @@ keeps_plan (SaveOn file epochs state) =
 keeps_plan (Look file cycle) = keeps_both (look_plan file cycle) _ (keeps_look file cycle) (λ network. tt)
 keeps_plan (LookOn file cycle state) = keeps_both (look_from_plan file cycle state) _ (keeps_look_from file cycle state) (λ at. keeps_come state at.0 at.1 cycle)
 keeps_plan (Sweep file state moves) = keeps_both (sweep_plan file state moves) _ (keeps_sweep file state moves) (λ it. tt)
+keeps_plan (Watch file from to places) = keeps_both (watch_plan file to places) _ (keeps_watch file to places) (λ it. tt)
+keeps_plan (WatchOn file from to places state) = keeps_both (watch_on_plan file from to places state) _ (keeps_watch_on file from to places state) (λ it. tt)
+keeps_plan (WatchSweep file from to places state moves) =
+    keeps_both (watch_sweep_plan file from to places state moves) _ (keeps_watch_sweep file from to places state moves) (λ it. tt)
 keeps_plan (MonitorSpan file from to) = keeps_both (span_plan file from to) _ (keeps_span file from to) (λ network. tt)
 
 -- words are refused only where nothing is asked for
@@ -138,7 +169,8 @@ EndsWith case.BadImage end = (name : List ℕ) × ((why : ImageCause) × (end �
 EndsWith case.NoMemory end = end ≡ NoMemory
 EndsWith case.BadSource end = (name : List ℕ) × ((why : SourceCause) × (end ≡ Refused (BadSource name why)))
 EndsWith case.BadState end =
-    ((name : List ℕ) × ((why : StateCause) × (end ≡ Refused (BadState name why)))) ⊎ ((name : List ℕ) × ((why : MovesCause) × (end ≡ Refused (BadMoves name why))))
+    ((name : List ℕ) × ((why : StateCause) × (end ≡ Refused (BadState name why))))
+    ⊎ (((name : List ℕ) × ((why : MovesCause) × (end ≡ Refused (BadMoves name why)))) ⊎ ((name : List ℕ) × ((why : PlacesCause) × (end ≡ Refused (BadPlaces name why)))))
 
 ends_with_due : (end : End) → EndsWith (status_due end) end
 ends_with_due Done = refl
@@ -150,7 +182,8 @@ ends_with_due (Refused (BadScenario name why)) = (name, (why, refl))
 ends_with_due (Refused (BadImage name why)) = (name, (why, refl))
 ends_with_due (Refused (BadSource name why)) = (name, (why, refl))
 ends_with_due (Refused (BadState name why)) = inl (name, (why, refl))
-ends_with_due (Refused (BadMoves name why)) = inr (name, (why, refl))
+ends_with_due (Refused (BadMoves name why)) = inr (inl (name, (why, refl)))
+ends_with_due (Refused (BadPlaces name why)) = inr (inr (name, (why, refl)))
 
 ends_with : (x answer : Status) (end : End) → answer ≡ status_due end → answer ≡ x → EndsWith x end
 ends_with x answer end e f = subst (λ s. EndsWith s end) (sym e ∙ f) (ends_with_due end)
@@ -228,12 +261,14 @@ module _ (files : Files) (words : List (List ℕ)) (store store' : Reads) (out o
       (s.1.0, (s.1.1.0, subst SaidSo s.1.1.1 s.2))
 
   state_from : HowNow → answer ≡ case.BadState
-      → ((name : List ℕ) × ((why : StateCause) × SaidSo (Refused (BadState name why)))) ⊎ ((name : List ℕ) × ((why : MovesCause) × SaidSo (Refused (BadMoves name why))))
+      → ((name : List ℕ) × ((why : StateCause) × SaidSo (Refused (BadState name why))))
+      ⊎ (((name : List ℕ) × ((why : MovesCause) × SaidSo (Refused (BadMoves name why)))) ⊎ ((name : List ℕ) × ((why : PlacesCause) × SaidSo (Refused (BadPlaces name why)))))
   state_from h e =
       let s = said h case.BadState e (λ f. cc) (λ f. cc) in
       elim s.1 [
         | inl state ↦ inl (state.0, (state.1.0, subst SaidSo state.1.1 s.2))
-        | inr moves ↦ inr (moves.0, (moves.1.0, subst SaidSo moves.1.1 s.2))
+        | inr (inl moves) ↦ inr (inl (moves.0, (moves.1.0, subst SaidSo moves.1.1 s.2)))
+        | inr (inr places) ↦ inr (inr (places.0, (places.1.0, subst SaidSo places.1.1 s.2)))
       ]
 
   memory_from : HowNow → answer ≡ case.NoMemory → SaidSo NoMemory

@@ -1,5 +1,5 @@
 -- What is read for a sweep, and the runs that it writes one behind another.
-use Rattle.std.proofs.Common.{◌≡◌, ℕ, false, zero, suc, ◌+◌, ◌<◌, List, [], ◌∷◌, ◌++◌, length, get_or, set, drop, flat_map, Option, Err, add-one, refl, sym, ap, ◌∙◌, append-nil, subst}
+use Rattle.std.proofs.Common.{◌≡◌, ℕ, false, zero, suc, ◌+◌, ◌<◌, List, [], ◌∷◌, ◌++◌, length, get_or, set, drop, flat_map, Option, Err, add-one, refl, sym, ap, ◌∙◌, append-nil, arith, subst}
 use Rattle.std.proofs.Math.Seq.{drop-cons, drop-length}
 use Rattle.sim_io.specs.Outside.{extended, Rose}
 use Rattle.sim_io.proofs.Pages.{Stands, stands_front, stands_more, stands_moved}
@@ -15,7 +15,10 @@ use Rattle.command_plans.specs.declared.status.Status.{Status}
 use Rattle.command_plans.specs.declared.trouble.Trouble.{Trouble}
 use Rattle.command_plans.specs.declared.trouble.Trouble.TheVariants as trouble
 use Rattle.command_plans.proofs.Steps.{both, goes_on, reached_moved, stops_behind, stops_moved, stops_on}
-use Rattle.commands.specs.Parts.{HasGot, IsFresh}
+use Rattle.commands.specs.Parts.{HasGot, IsFresh, IsLookOn, IsTail, IsWatchOn}
+use Rattle.commands.specs.declared.watch.Tail.{Tail}
+use Rattle.commands.specs.declared.watch.Tail.TheVariants as tail
+use Rattle.commands.specs.declared.watch.Watch.{Watch}
 
 -- something was read, and then something that hangs on it
 module _ {A B : Type 0} (files files' : Files) (first : Plan A) (next : A → Plan B) (a : A) (store mid store' : Reads) (err err' : Stream)
@@ -50,11 +53,28 @@ module _ {A B : Type 0} (files files' : Files) (first : Plan A) (next : A → Pl
 pub fresh_saved : (network : ScenarioOf) (state : StateOf) (saved : SavedAt) → saved ≡ record { scenario = network; state = state; floor = state.cycle; failed = false } → CanResume network state → IsFresh network saved
 fresh_saved network state saved is fit = subst (λ (s : SavedAt). IsFresh network s) (sym is) (record { is = refl; early = fit.early })
 
+-- and goes on up to the cycle from which it is watched
+pub look_on_begun : (network : ScenarioOf) (state : StateOf) (saved : SavedAt) (w : Watch) → saved ≡ record { scenario = network; state = state; floor = state.cycle; failed = false } → IsWatchOn network state w
+    → IsLookOn network saved w.from
+look_on_begun network state saved w is on =
+    let rises = on.watch.rises in
+    let within = on.watch.within in
+    subst (λ (s : SavedAt). IsLookOn network s w.from) (sym is) (record { fresh = record { is = refl; early = on.fit.early }; from = on.begun; to = omega (arith, rises, within) })
+
 -- ---- a network with another input
 
 -- a state from which it can go on is one whatever arrives
 pub fit_moved : (network : ScenarioOf) (state : StateOf) (node : ℕ) (script : ScriptBytes) → CanResume network state → CanResume (with_script network node script) state
 fit_moved network state node script h = record { early = h.early; count = h.count; nodes = h.nodes; sends = h.sends; rises = h.rises; order = h.order }
+
+-- and so can be watched
+pub tail_moved : (network : ScenarioOf) (state : StateOf) (node : ℕ) (script : ScriptBytes) (what : Tail) → IsTail network state what → IsTail (with_script network node script) state what
+tail_moved network state node script tail.Trace h = h
+tail_moved network state node script (tail.Watch w) h = record {
+  fit = fit_moved network state node script h.fit;
+  begun = h.begun;
+  watch = record { rises = h.watch.rises; within = h.watch.within; spots = h.watch.spots };
+}
 
 set_back : {X : Type 0} (xs : List X) (k : ℕ) (x d : X) → set (set xs k x) k (get_or xs k d) ≡ xs
 set_back [] k x d = refl

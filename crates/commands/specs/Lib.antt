@@ -3,6 +3,7 @@ pub mod Network
 pub mod Sample
 pub mod Sweep
 pub mod Texts
+pub mod Tails
 pub mod Plan
 pub mod TopClause
 pub mod Parts

@@ -5,6 +5,7 @@ use Rattle.std.specs.Prelude.{◌≡◌, false, ◌≤◌, ◌<◌, ◌+◌, ◌
 use Rattle.world_core.specs.Kept.{epoch}
 use Rattle.node_runner.specs.Scenario.{ScenarioOf}
 use Rattle.checkpoint_text.specs.Onward.{CanResume, SavedAt}
+use Rattle.fleet_flight.specs.Shadows.{IsSpot}
 use Rattle.moves_text.specs.Moves.{MoveOf}
 use Rattle.state_text.specs.Text.{StateOf}
 use Rattle.command_words.specs.Words.{asked_by}
@@ -20,10 +21,14 @@ use Rattle.commands.specs.Listing.{listing}
 use Rattle.commands.specs.Network.{size_line, trace_of}
 use Rattle.commands.specs.Plan.{plan}
 use Rattle.commands.specs.Sample.{sample_line}
-use Rattle.commands.specs.Texts.{head_on_text, head_text, look_on_text, look_text, resume_text, sweep_text}
+use Rattle.commands.specs.Tails.{tails_text}
+use Rattle.commands.specs.Texts.{head_on_text, head_text, look_on_text, look_text, resume_text, watch_on_text, watch_text}
 use Rattle.commands.specs.TopClause.{TopClause}
 use Rattle.commands.specs.declared.job.Job.{Job}
 use Rattle.commands.specs.declared.job.Job.TheVariants as job
+use Rattle.commands.specs.declared.watch.Tail.{Tail}
+use Rattle.commands.specs.declared.watch.Tail.TheVariants as tail
+use Rattle.commands.specs.declared.watch.Watch.{Watch}
 
 -- the window of a network ends within its run
 abbrev pub EndsWithin : ScenarioOf → Type 0
@@ -61,7 +66,9 @@ output (job.Save network cycle) = look_text network cycle
 output (job.Resume network saved) = resume_text network saved.state
 output (job.HeadOn network saved epochs) = head_on_text network saved.state epochs
 output (job.SaveOn network saved) = look_on_text network saved.state saved.floor
-output (job.Sweep network state moves) = sweep_text network state moves.items
+output (job.Sweep network state moves tail) = tails_text tail network state moves.items
+output (job.Watch network watch) = watch_text network watch.places.items watch.from watch.to
+output (job.WatchOn network state watch) = watch_on_text network state watch.places.items watch.from watch.to
 
 -- a saved state of this network, with which nothing was done yet
 pub record IsFresh (network : ScenarioOf) (saved : SavedAt) : Type 0 where
@@ -95,6 +102,27 @@ pub record IsSweep (network : ScenarioOf) (state : StateOf) (moves : List MoveOf
   pub fit : CanResume network state
   pub known : All (λ (m : MoveOf). m.node < network.topo.nodes) moves
 
+-- places of this network are watched within its run
+pub record IsWatch (network : ScenarioOf) (w : Watch) : Type 0 where
+  pub rises : w.from ≤ w.to
+  pub within : w.to ≤ network.topo.limit
+  pub spots : All (λ p. IsSpot p.spot) w.places.items
+
+-- from a state on
+pub record IsWatchOn (network : ScenarioOf) (state : StateOf) (w : Watch) : Type 0 where
+  pub fit : CanResume network state
+  pub begun : state.cycle ≤ w.from
+  pub watch : IsWatch network w
+
+-- and this can be written of runs from a state on
+abbrev pub IsTail : ScenarioOf → StateOf → Tail → Type 0
+IsTail network state tail.Trace = Unit {0}
+IsTail network state (tail.Watch w) = IsWatchOn network state w
+
+pub record IsTailed (network : ScenarioOf) (state : StateOf) (moves : List MoveOf) (what : Tail) : Type 0 where
+  pub sweep : IsSweep network state moves
+  pub tail : IsTail network state what
+
 -- a program is no longer than the flash, a window that is watched ends within the run, a run is cut below its limit, and
 -- is looked at no later
 abbrev pub IsShort : Job → Type 0
@@ -111,7 +139,9 @@ IsShort (job.Save network cycle) = cycle ≤ network.topo.limit
 IsShort (job.Resume network saved) = IsFresh network saved
 IsShort (job.HeadOn network saved epochs) = IsCutOn network saved epochs
 IsShort (job.SaveOn network saved) = HasCome network saved
-IsShort (job.Sweep network state moves) = IsSweep network state moves.items
+IsShort (job.Sweep network state moves tail) = IsTailed network state moves.items tail
+IsShort (job.Watch network watch) = IsWatch network watch
+IsShort (job.WatchOn network state watch) = IsWatchOn network state watch
 
 -- what a plan reads was read, this is left to do, and nothing was said
 pub record Ready (files : Files) (plan : Plan (List ℕ)) (store store' : Reads) (err err' : Stream) (todo : Job) : Type 0 where

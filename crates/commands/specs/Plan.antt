@@ -1,10 +1,11 @@
 -- What each command reads, in order, and what it is to write then.
 use Rattle.std.specs.Prelude.{ℕ, ◌+◌, ◌*◌, nat_le, nat_lt, if◌then◌else◌, List, Option, Some, None, Result, Ok, Err}
-use Rattle.command_words.specs.Words.{Asked, Node, Run, RunPlain, Monitor, Sniff, Check, Disasm, Asm, Make, Head, Save, Resume, HeadOn, SaveOn, MonitorSpan, Sweep, Look, LookOn, asked_by}
+use Rattle.command_words.specs.Words.{Asked, Node, Run, RunPlain, Monitor, Sniff, Check, Disasm, Asm, Make, Head, Save, Resume, HeadOn, SaveOn, MonitorSpan, Sweep, Look, LookOn, Watch, WatchOn, WatchSweep, asked_by}
 use Rattle.world_core.specs.Kept.{epoch}
 use Rattle.scenario_file.specs.Scenario.{ScenarioParts}
 use Rattle.scenario_file.specs.declared.fault.ScenarioFault.TheVariants.{OutOfRange}
 use Rattle.moves_text.specs.Moves.{MoveOf}
+use Rattle.node_places.specs.declared.Place.{Place}
 use Rattle.node_runner.specs.Scenario.{ScenarioOf}
 use Rattle.checkpoint_text.specs.Onward.{onward}
 use Rattle.checkpoint_text.specs.State.{counts_fit, state_in}
@@ -13,14 +14,14 @@ use Rattle.state_text.specs.declared.fault.StateFault.{StateFault}
 use Rattle.state_text.specs.declared.fault.StateFault.TheVariants.{PastEnd}
 use Rattle.command_plans.specs.declared.trouble.ScenarioCause.TheVariants as scenario_cause
 use Rattle.command_plans.specs.declared.trouble.StateCause.TheVariants as cause
-use Rattle.command_plans.specs.Plan.{Plan, Give, Refuse, Read, BadWords, BadScenario, BadState, and_then, image_plan, images_plan, moves_plan, scenario_plan, source_plan}
+use Rattle.command_plans.specs.Plan.{Plan, Give, Refuse, Read, BadWords, BadScenario, BadState, and_then, image_plan, images_plan, moves_plan, places_plan, scenario_plan, source_plan}
 use Rattle.ihex_loader.specs.Hex.{hex_of}
 use Rattle.run_reports.specs.Frames.{frames_text}
 use Rattle.run_reports.specs.Profiles.{profiles_text}
 use Rattle.commands.specs.Listing.{listing}
 use Rattle.commands.specs.Network.{lone_node, network_of, size_line, trace_of}
 use Rattle.commands.specs.Sample.{sample_line}
-use Rattle.commands.specs.Texts.{head_on_text, head_text, look_on_text, look_text, resume_text, save_text, sweep_text}
+use Rattle.commands.specs.Texts.{head_on_text, head_text, look_on_text, look_text, resume_text, save_text, sweep_text, watch_on_text, watch_sweep_text, watch_text}
 
 -- read the image of each node of a scenario, for the network
 abbrev pub images_for : ScenarioParts → Plan ScenarioOf
@@ -107,6 +108,36 @@ abbrev pub sweep_plan : List ℕ → List ℕ → List ℕ → Plan ((ScenarioOf
 sweep_plan file state name =
     and_then (begun_plan file state) (λ begun. and_then (moves_plan begun.0.topo.nodes name) (λ moves. Give (begun, moves)))
 
+-- a run can be watched up to a cycle that it has, and to its end
+abbrev pub up_to_or : List ℕ → ℕ → ScenarioParts → Plan ScenarioParts
+up_to_or name to parts = if nat_le to parts.topology.limit then Give parts else Refuse (BadScenario name (scenario_cause.Faulty OutOfRange))
+
+-- read a scenario whose run is to be watched up to this cycle, then the image of each of its nodes, and then places of
+-- the network
+abbrev pub up_to_plan : List ℕ → ℕ → Plan ScenarioOf
+up_to_plan name to = and_then (and_then (scenario_plan name) (up_to_or name to)) images_for
+
+abbrev pub watch_plan : List ℕ → ℕ → List ℕ → Plan (ScenarioOf × List Place)
+watch_plan file to name =
+    and_then (up_to_plan file to) (λ network. and_then (places_plan network.topo.nodes name) (λ places. Give (network, places)))
+
+-- and then a state of the network
+abbrev pub watch_begun_plan : List ℕ → ℕ → List ℕ → List ℕ → Plan ((ScenarioOf × List Place) × StateOf)
+watch_begun_plan file to places name = and_then (watch_plan file to places) (λ it. and_then (state_plan it.0 name) (λ state. Give (it, state)))
+
+-- from a state on a run can be watched as the state's cycle begins, and later
+abbrev pub watch_from_or : List ℕ → ℕ → (ScenarioOf × List Place) × StateOf → Plan ((ScenarioOf × List Place) × StateOf)
+watch_from_or name from it = if nat_lt from it.1.cycle then Refuse (BadState name cause.PastCycle) else Give it
+
+-- and the run is to be watched from this cycle on
+abbrev pub watch_on_plan : List ℕ → ℕ → ℕ → List ℕ → List ℕ → Plan ((ScenarioOf × List Place) × StateOf)
+watch_on_plan file from to places name = and_then (watch_begun_plan file to places name) (watch_from_or name from)
+
+-- and then the moves of the runs that go on from the state
+abbrev pub watch_sweep_plan : List ℕ → ℕ → ℕ → List ℕ → List ℕ → List ℕ → Plan (((ScenarioOf × List Place) × StateOf) × List MoveOf)
+watch_sweep_plan file from to places state name =
+    and_then (watch_on_plan file from to places state) (λ it. and_then (moves_plan it.0.0.topo.nodes name) (λ moves. Give (it, moves)))
+
 -- what each command reads, and what it writes then
 unfoldable pub plan_of : Asked → Plan (List ℕ)
 plan_of (Node file cycles) = and_then (image_plan file) (λ flash. Give (trace_of (lone_node flash cycles)))
@@ -126,6 +157,11 @@ plan_of (SaveOn file epochs state) = save_on_plan file epochs state
 plan_of (Sweep file state moves) = and_then (sweep_plan file state moves) (λ it. Give (sweep_text it.0.0 it.0.1 it.1))
 plan_of (Look file cycle) = and_then (look_plan file cycle) (λ network. Give (look_text network cycle))
 plan_of (LookOn file cycle state) = look_on_plan file cycle state
+plan_of (Watch file from to places) = and_then (watch_plan file to places) (λ it. Give (watch_text it.0 it.1 from to))
+plan_of (WatchOn file from to places state) =
+    and_then (watch_on_plan file from to places state) (λ it. Give (watch_on_text it.0.0 it.1 it.0.1 from to))
+plan_of (WatchSweep file from to places state moves) =
+    and_then (watch_sweep_plan file from to places state moves) (λ it. Give (watch_sweep_text it.0.0.0 it.0.1 it.1 it.0.0.1 from to))
 plan_of (MonitorSpan file from to) = and_then (span_plan file from to) (λ network. Give (profiles_text network))
 
 -- the plan of what the words ask for

@@ -3,7 +3,7 @@
 use Rattle.std.specs.Prelude.{◌≡◌, ◌⊎◌, List, ℕ, None}
 use Rattle.sim_io.specs.Outside.{Rose}
 use Rattle.command_words.specs.Words.{asked_by}
-use Rattle.command_plans.specs.Plan.{BadWords, BadScenario, BadImage, BadSource, BadState, BadMoves}
+use Rattle.command_plans.specs.Plan.{BadWords, BadScenario, BadImage, BadSource, BadState, BadMoves, BadPlaces}
 use Rattle.command_plans.specs.Reading.{Files, verdict}
 use Rattle.commands.specs.Plan.{plan}
 use Rattle.command_plans.specs.Ends.{Reads, Stream, End, Done, OutFailed, NoMemory, ReadFailed, Refused, Ends, EndedSaying, EndedUnsaid, HasStatus}
@@ -12,6 +12,7 @@ use Rattle.command_plans.specs.declared.trouble.ScenarioCause.{ScenarioCause}
 use Rattle.command_plans.specs.declared.trouble.SourceCause.{SourceCause}
 use Rattle.command_plans.specs.declared.trouble.StateCause.{StateCause}
 use Rattle.command_plans.specs.declared.trouble.MovesCause.{MovesCause}
+use Rattle.command_plans.specs.declared.trouble.PlacesCause.{PlacesCause}
 use Rattle.command_plans.specs.declared.status.Status.{Status}
 use Rattle.command_plans.specs.declared.status.Status.TheVariants as status
 
@@ -43,10 +44,12 @@ pub record TopClause (files files' : Files) (words : List (List ℕ)) (store sto
   -- 7: the source is refused
   pub bad_source : answer ≡ status.BadSource
       → (name : List ℕ) × ((why : SourceCause) × EndedSaying files (plan words) store store' out out' err err' (Refused (BadSource name why)))
-  -- 8: the saved state is refused, or cannot be had; or the moves of a sweep are refused
+  -- 8: the saved state is refused, or cannot be had; or the moves of a sweep are refused, or the places that are to be
+  -- watched
   pub bad_state : answer ≡ status.BadState
       → ((name : List ℕ) × ((why : StateCause) × EndedSaying files (plan words) store store' out out' err err' (Refused (BadState name why))))
-      ⊎ ((name : List ℕ) × ((why : MovesCause) × EndedSaying files (plan words) store store' out out' err err' (Refused (BadMoves name why))))
+      ⊎ (((name : List ℕ) × ((why : MovesCause) × EndedSaying files (plan words) store store' out out' err err' (Refused (BadMoves name why))))
+      ⊎ ((name : List ℕ) × ((why : PlacesCause) × EndedSaying files (plan words) store store' out out' err err' (Refused (BadPlaces name why)))))
   -- words that are not accepted give 2, or 1 where `err` failed
   pub words_first : asked_by words ≡ None → (answer ≡ status.BadWords) ⊎ ((answer ≡ status.SinkFailed) × Rose err.faults err'.faults)
   -- where no read failed, the verdict decides, but for want of memory and failed writes

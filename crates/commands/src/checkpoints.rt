@@ -74,8 +74,8 @@ pub fn read_state_parts<'n, S: Store>(
     }
 }
 
-// Runs a network that has not begun up to the cycle `end`.
-fn run_up_to(network: &Scenario, run: &mut PlainRun, end: u64) -> Result<(), NoMemory>
+/// Runs a network that has not begun up to the cycle `end`.
+pub fn run_up_to(network: &Scenario, run: &mut PlainRun, end: u64) -> Result<(), NoMemory>
     requires first { run.old ≡ record { scenario = network.now; floor = 0; failed = false } }
     requires to { end ≤ network.now.topo.limit }
     ensures { OnOk result (run.new ≡ record { scenario = network.now; floor = end; failed = false }) }
@@ -111,8 +111,8 @@ pub fn write_saved<'n, O: Sink>(
     }
 }
 
-// Goes on with a network from a saved state, with which nothing was done yet, up to the cycle `end`.
-fn go_on(network: &Scenario, saved: &mut Saved, end: u64) -> Result<(), NoMemory>
+/// Goes on with a network from a saved state, with which nothing was done yet, up to the cycle `end`.
+pub fn go_on(network: &Scenario, saved: &mut Saved, end: u64) -> Result<(), NoMemory>
     requires look { IsLookOn network.now saved.old end }
     ensures { OnOk result (saved.new ≡ record { scenario = network.now; state = saved.old.state; floor = end; failed = false }) }
 {

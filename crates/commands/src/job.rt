@@ -12,6 +12,8 @@ use crate::profiles::write_profiles;
 use crate::sample::write_sample;
 use crate::sweeps::write_sweep;
 use crate::trace::{write_head, write_trace};
+use crate::watch::{Tail, Watch};
+use crate::watching::{write_watch, write_watch_on};
 use checkpoint_text::Saved;
 use command_plans::Trouble;
 use ihex_loader::Flash;
@@ -50,8 +52,12 @@ pub enum Job {
     HeadOn(Scenario, Saved, u64),
     /// To write the state to which this network has come from a saved state: for `save` and `look`.
     SaveOn(Scenario, Saved),
-    /// To write the traces of this network from a state on, one for each of these moves.
-    Sweep(Scenario, StateParts, Vec<Move>),
+    /// To write this of the runs of this network from a state on, one for each of these moves.
+    Sweep(Scenario, StateParts, Vec<Move>, Tail),
+    /// To write what is seen at places of this network.
+    Watch(Scenario, Watch),
+    /// To write what is seen at places of this network from a state on.
+    WatchOn(Scenario, StateParts, Watch),
 }
 
 /// Does a job on one thread.
@@ -74,8 +80,10 @@ pub fn do_job<'n, O: Sink>(alloc: Global, job: Job, out: &mut O) -> Result<(), T
         Job::Resume(network, saved) => write_onward(&network, saved, out),
         Job::HeadOn(network, saved, epochs) => write_head_on(&network, saved, epochs, out),
         Job::SaveOn(network, saved) => write_reached(&network, &saved, out),
-        Job::Sweep(network, state, moves) => {
-            write_sweep(alloc, network, &state, moves.as_slice(), out)
+        Job::Sweep(network, state, moves, tail) => {
+            write_sweep(alloc, network, &state, moves.as_slice(), &tail, out)
         }
+        Job::Watch(network, watch) => write_watch(alloc, &network, &watch, out),
+        Job::WatchOn(network, state, watch) => write_watch_on(alloc, &network, &state, &watch, out),
     }
 }

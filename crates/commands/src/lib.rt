@@ -23,6 +23,9 @@ mod sweeps;
 mod threads;
 mod top;
 mod trace;
+mod watch;
+mod watches;
+mod watching;
 
 pub use alone::avrora_alone;
 pub use command_plans::Status;

@@ -13,6 +13,8 @@ use crate::looks::{read_look, read_look_on, read_saved_on};
 use crate::network::lone_node;
 use crate::spans::read_span;
 use crate::sweeps::read_sweep;
+use crate::watch::Tail;
+use crate::watches::{read_watch, read_watch_on, read_watch_sweep};
 use checkpoint_text::Saved;
 use command_plans::{
     Complaint, StateCause, Status, Trouble, read_image, read_images, read_scenario, read_source,
@@ -200,7 +202,39 @@ fn read_job<'w, S: Store, E: Sink>(
         }
         Command::Sweep { file, state, moves } => {
             let ((network, state), moves) = read_sweep(alloc, file, state, moves, store, err)?;
-            Ok(Job::Sweep(network, state, moves))
+            Ok(Job::Sweep(network, state, moves, Tail::Trace))
+        }
+        Command::Watch {
+            file,
+            from,
+            to,
+            places,
+        } => {
+            let (network, watch) = read_watch(alloc, file, from, to, places, store, err)?;
+            Ok(Job::Watch(network, watch))
+        }
+        Command::WatchOn {
+            file,
+            from,
+            to,
+            places,
+            state,
+        } => {
+            let ((network, watch), state) =
+                read_watch_on(alloc, file, from, to, places, state, store, err)?;
+            Ok(Job::WatchOn(network, state, watch))
+        }
+        Command::WatchSweep {
+            file,
+            from,
+            to,
+            places,
+            state,
+            moves,
+        } => {
+            let (((network, watch), state), moves) =
+                read_watch_sweep(alloc, file, from, to, places, state, moves, store, err)?;
+            Ok(Job::Sweep(network, state, moves, Tail::Watch(watch)))
         }
     }
 }

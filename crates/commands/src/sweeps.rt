@@ -1,17 +1,18 @@
-// `sweep`: many runs of one network from one state on, each with another input at a node.
+// `sweep`, and `watch` over moves: many runs of one network from one state on, each with another input at a node.
 ghost use Rattle.std.specs.Prelude.{◌≡◌, ◌<◌, IfErr, IfOk};
-ghost use Rattle.std.specs.List.{flat_map};
 ghost use Rattle.checkpoint_text.specs.Onward.{CanResume, onward};
 ghost use Rattle.command_plans.specs.Ends.{reads, stream};
 ghost use Rattle.command_plans.specs.Parts.{Stopped, Written};
-ghost use Rattle.commands.specs.Parts.{HasGot, IsSweep};
+ghost use Rattle.commands.specs.Parts.{HasGot, IsSweep, IsTail, IsTailed};
 ghost use Rattle.commands.specs.Plan.{begun_plan, sweep_plan};
-ghost use Rattle.commands.specs.Sweep.{run_text};
+ghost use Rattle.commands.specs.Tails.{moved_text, tail_text, tails_text};
 ghost use Rattle.trace_writer.specs.Line.{rows_text};
 ghost use Rattle.world_core.specs.Order.{run_rows};
 
 use crate::checkpoints::{read_state_parts, write_onward};
 use crate::reading::read_network;
+use crate::watch::Tail;
+use crate::watching::write_watch_on;
 use checkpoint_text::Saved;
 use command_plans::{Status, Trouble, read_moves, tell};
 use moves_text::Move;
@@ -95,18 +96,38 @@ fn write_from<'n, O: Sink>(
     }
 }
 
-// Goes on with a network from a state, with what a move says in place of a node's own input, and writes the trace. The
-// network then has its own input again.
+// Goes on with a network from a state, and writes what is asked for of the run.
+fn write_tail<'n, O: Sink>(
+    alloc: Global,
+    network: &Scenario,
+    state: &StateParts,
+    tail: &Tail,
+    out: &mut O,
+) -> Result<(), Trouble<'n>>
+    requires fit { CanResume network.now state.now }
+    requires tail { IsTail network.now state.now tail.now }
+    ensures { Written (tail_text tail.now network.now state.now) (stream (O.taken out.old) (O.faults out.old)) (stream (O.taken out.new) (O.faults out.new)) result }
+{
+    match tail {
+        Tail::Trace => write_from(alloc, network, state, out),
+        Tail::Watch(watch) => write_watch_on(alloc, network, state, watch, out),
+    }
+}
+
+// Goes on with a network from a state, with what a move says in place of a node's own input, and writes what is asked for
+// of the run. The network then has its own input again.
 fn write_run<'n, O: Sink>(
     alloc: Global,
     network: &mut Scenario,
     state: &StateParts,
     one: &Move,
+    tail: &Tail,
     out: &mut O,
 ) -> Result<(), Trouble<'n>>
     requires fit { CanResume network.old state.now }
     requires known { one.now.node < network.old.topo.nodes }
-    ensures written { Written (run_text network.old state.now one.now) (stream (O.taken out.old) (O.faults out.old)) (stream (O.taken out.new) (O.faults out.new)) result }
+    requires tail { IsTail network.old state.now tail.now }
+    ensures written { Written (moved_text tail.now network.old state.now one.now) (stream (O.taken out.old) (O.faults out.old)) (stream (O.taken out.new) (O.faults out.new)) result }
     ensures same { network.new ≡ network.old }
 {
     let node = one.node();
@@ -114,25 +135,26 @@ fn write_run<'n, O: Sink>(
         return Err(Trouble::NoMemory);
     };
     let own = network.swap_script(node, script);
-    let outcome = write_from(alloc, network, state, out);
+    let outcome = write_tail(alloc, network, state, tail, out);
     let _ = network.swap_script(node, own);
     outcome
 }
 
-/// Goes on with a network from one state again and again, once for each of these moves, and writes the traces one behind
-/// another, the rows of each epoch before the next one is run.
+/// Goes on with a network from one state again and again, once for each of these moves, and writes what is asked for of
+/// each run, one behind another, epoch by epoch before the next one is run.
 pub fn write_sweep<'n, O: Sink>(
     alloc: Global,
     mut network: Scenario,
     state: &StateParts,
     moves: &[Move],
+    tail: &Tail,
     out: &mut O,
 ) -> Result<(), Trouble<'n>>
-    requires { IsSweep network state.now moves.now }
-    ensures { Written (flat_map (run_text network state.now) moves.now) (stream (O.taken out.old) (O.faults out.old)) (stream (O.taken out.new) (O.faults out.new)) result }
+    requires { IsTailed network state.now moves.now tail.now }
+    ensures { Written (tails_text tail.now network state.now moves.now) (stream (O.taken out.old) (O.faults out.old)) (stream (O.taken out.new) (O.faults out.new)) result }
 {
     for one in moves {
-        match write_run(alloc, &mut network, state, one, out) {
+        match write_run(alloc, &mut network, state, one, tail, out) {
             Ok(()) => {}
             Err(trouble) => return Err(trouble),
         }

@@ -24,3 +24,9 @@ pub mod Following
 -- Shadows of a run's nodes: they hear what the nodes heard, so they go the same way, and what is seen of them is what
 -- is seen of the nodes.
 pub mod Watching
+-- The SRAM of each node of a run has the size that it has where the run begins.
+pub mod Sizes
+-- The shadows with which the nodes of a run are watched from the cycle on that they have reached.
+pub mod Shadowed
+-- What is seen in spans that are joined, and a byte behind the changes that are seen of it.
+pub mod Seen

@@ -7,7 +7,7 @@ use Rattle.air_base.specs.NodeKind.{ticked}
 use Rattle.air_base.specs.NodeRun.{Timed}
 use Rattle.air_base.specs.declared.air.Heard.{Heard}
 use Rattle.air_base.specs.declared.air.Send.{Send}
-use Rattle.data_space.specs.declared.regions.TheConstants.{SRAM_LAST}
+use Rattle.data_space.specs.declared.regions.TheConstants.{SRAM_LAST, SRAM_LEN}
 use Rattle.node_core.specs.Cycle.{node_kind}
 use Rattle.node_core.specs.State.{NodeState}
 use Rattle.node_core.specs.declared.row.Row.{Row}
@@ -19,7 +19,8 @@ use Rattle.world_core.specs.Heard.{heard}
 use Rattle.world_core.specs.Order.{Fleet, node_at}
 use Rattle.world_core.specs.Topology.{Topology}
 use Rattle.fleet_flight.specs.Alone.{alone}
-use Rattle.fleet_flight.specs.Paused.{HasRun}
+use Rattle.fleet_flight.specs.Origin.{Origin, flown}
+use Rattle.fleet_flight.specs.Paused.{HasRun, IsPaused}
 use Rattle.fleet_flight.specs.Watched.{Group, byte_of, no_place, seen_by, seen_from}
 use Rattle.fleet_flight.specs.declared.shadow.Shadow.{Shadow}
 
@@ -81,3 +82,24 @@ group_of v = record { node = v.number; places = v.places.items }
 
 abbrev pub groups_of : List Shadow → List Group
 groups_of vs = map group_of vs
+
+-- a node in the cycle reached, that can be copied
+pub record IsStill (v : Timed NodeState Row) : Type 0 where
+  pub calm : v.asking ≡ false
+  pub rows : v.rows ≡ []
+  pub sram : length v.state.sram ≡ SRAM_LEN
+
+-- the shadow of one of these nodes, with which nothing was done yet
+pub record IsNew (vs : List (Timed NodeState Row)) (v : Shadow) : Type 0 where
+  pub shadow : IsShadow v
+  pub within : v.number < length vs
+  pub node : (d : Timed NodeState Row) → v.node ≡ slice_index_or vs v.number d
+
+-- the SRAM of each node has its size in the moment in which a run begins
+abbrev pub AreSized : Origin → Type 0
+AreSized o = (k : ℕ) → k < o.topo.nodes → length (o.states k).sram ≡ SRAM_LEN
+
+-- a run at cycle c whose nodes are watched
+pub record IsWatching (o : Origin) (c : ℕ) (vs : List (Timed NodeState Row)) (xs : List Send) (watching : List Shadow) : Type 0 where
+  pub paused : IsPaused (flown o) c c vs xs
+  pub shadows : All (IsBehind (flown o) c) watching

@@ -1,5 +1,6 @@
 -- What is seen at the places of a network that are watched. Own to this simulator.
 use Rattle.std.specs.Prelude.{ℕ, ◌+◌, ◌-◌, ◌/◌, ◌%◌, ◌==◌, Bool, false, not, nat_lt, if◌then◌else◌, Option, Some, None, List, [], ◌∷◌, length, slice_index, slice_index_or}
+use Rattle.std.specs.List.{filter}
 use Rattle.air_base.specs.Each.{each_below}
 use Rattle.board_io.specs.Kept.{io_at}
 use Rattle.data_space.specs.declared.regions.TheConstants.{SRAM_START}
@@ -72,3 +73,32 @@ seen_in f g t = seen_by g.places t (node_at f g.node t) (node_at f g.node (t + 1
 -- what is seen in the cycles from a on and below b: cycle by cycle, node by node, place by place
 abbrev pub watched : Fleet NodeState Row → List Group → ℕ → ℕ → List Change
 watched f gs a b = each_below (b - a) (λ i. each_below (length gs) (λ g. seen_in f (slice_index_or gs g no_group) (a + i)))
+
+-- the places of node k among these, in their order
+abbrev pub places_of : ℕ → List Place → List Place
+places_of k ps = filter (λ (p : Place). p.node == k) ps
+
+-- the group of node k, where it has places
+abbrev pub group_with : ℕ → List Place → List Group
+group_with k [] = []
+group_with k (p ∷ ps) = record { node = k; places = p ∷ ps } ∷ []
+
+-- of the first n nodes those that have places among these, in order of number, each with its own
+abbrev pub groups_in : ℕ → List Place → List Group
+groups_in n ps = each_below n (λ k. group_with k (places_of k ps))
+
+-- ---- changes put in
+
+-- a byte at a data address that was this one, behind what is seen
+abbrev pub byte_behind : Seen → ℕ → ℕ → ℕ
+byte_behind (seen.Byte address byte) at was = if address == at then byte else was
+byte_behind (seen.At address) at was = was
+
+-- and of node k, behind a change
+abbrev pub put_one : ℕ → ℕ → Change → ℕ → ℕ
+put_one k at c was = if c.node == k then byte_behind c.seen at was else was
+
+-- behind one change after another
+unfoldable pub put_in : ℕ → ℕ → List Change → ℕ → ℕ
+put_in k at [] was = was
+put_in k at (c ∷ cs) was = put_in k at cs (put_one k at c was)

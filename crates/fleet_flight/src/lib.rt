@@ -4,7 +4,9 @@
 #![tactic(auto)]
 
 mod begins;
+mod begun;
 mod flight;
+mod law;
 mod latency;
 mod order;
 mod places;
@@ -13,10 +15,12 @@ mod rows;
 mod shadow;
 mod turns;
 mod watch;
+mod watched_run;
 
 pub use begins::Begins;
+pub use law::{changes_law, joined_law};
 pub use order::{put_behind, sort};
 pub use record::{kept_sends, record_of};
 pub use rows::{pass_to, rows_to};
 pub use shadow::Shadow;
-pub use watch::watch_to;
+pub use watched_run::WatchedRun;

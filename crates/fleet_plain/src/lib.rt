@@ -4,4 +4,5 @@
 mod begun;
 mod plain;
 
+pub use begun::AtReset;
 pub use plain::{PlainRun, run_plain};

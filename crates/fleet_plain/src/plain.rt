@@ -1,19 +1,24 @@
 // A run in epochs, and the whole run.
 ghost use Rattle.std.specs.Prelude.{◌≡◌, ◌<◌, ◌≤◌, ◌+◌, ◌++◌, ◌==◌, ℕ, length, min, slice_index_or, true, false, IfOk, OnOk};
+ghost use Rattle.std.specs.List.{All};
 ghost use Rattle.air_base.specs.NodeRun.{Timed};
 ghost use Rattle.world_core.specs.Kept.{epoch};
 ghost use Rattle.world_core.specs.Order.{node_at, run_rows};
 ghost use Rattle.node_core.specs.State.{NodeState};
 ghost use Rattle.node_core.specs.declared.row.Row.{Row};
 ghost use Rattle.fleet_flight.specs.Rows.{rows_upto};
+ghost use Rattle.fleet_flight.specs.Shadows.{IsSpot, IsWatching, groups_of};
+ghost use Rattle.fleet_flight.specs.Watched.{groups_in};
 ghost use Rattle.node_runner.specs.Scenario.{fleet_of, IsScenario};
 ghost use Rattle.node_runner.specs.Run.{kept_at};
+ghost use Rattle.fleet_plain.specs.Run.{at_reset};
 
 use crate::begun::{AtReset, nodes_at_reset};
 use air_base::Send;
 use avr_base::NoMemory;
-use fleet_flight::{kept_sends, pass_to, record_of, rows_to};
+use fleet_flight::{WatchedRun, kept_sends, pass_to, record_of, rows_to};
 use node_core::{Node, Row};
+use node_places::Place;
 use node_runner::Scenario;
 use std::alloc::Global;
 use std::marker::Model;
@@ -179,6 +184,32 @@ impl PlainRun {
         self.floor = next;
         self.failed = false;
         Ok(())
+    }
+
+    /// The run from the cycle reached on, watched at these places. The scenario is the one of `new`. Not after `NoMemory`.
+    pub fn watch<'a>(
+        self,
+        scenario: &'a Scenario,
+        places: &[Place],
+    ) -> Result<WatchedRun<AtReset<'a>>, NoMemory>
+        requires same { scenario.now ≡ self.scenario }
+        requires sound { self.failed ≡ false }
+        requires spots { All (λ p. IsSpot p.spot) places.now }
+        ensures watching { IfOk result (λ w. IsWatching (at_reset w.from.scenario.now) w.floor w.nodes.items w.log.sends w.shadows.items) }
+        ensures groups { IfOk result (λ w. groups_of w.shadows.items ≡ groups_in scenario.now.topo.nodes places.now) }
+        ensures scenario { IfOk result (λ w. w.from.scenario.now ≡ scenario.now) }
+        ensures floor { IfOk result (λ w. w.floor ≡ self.floor) }
+    {
+        let PlainRun {
+            alloc,
+            scenario: _,
+            limit: _,
+            floor,
+            failed: _,
+            nodes,
+            log,
+        } = self;
+        WatchedRun::new(alloc, AtReset { scenario }, nodes, log, floor, places)
     }
 }
 

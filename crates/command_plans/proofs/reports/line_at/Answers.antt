@@ -1,5 +1,5 @@
 use Rattle.std.proofs.Common.{◌≡◌, List, ℕ, ap, refl, sym, ◌∙◌, ◌++◌, codes}
-use Rattle.command_plans.specs.Ends.{Refused, cause_text, line_due, moves_cause_text, scenario_cause_text, source_cause_text, state_cause_text}
+use Rattle.command_plans.specs.Ends.{Refused, cause_text, line_due, moves_cause_text, places_cause_text, scenario_cause_text, source_cause_text, state_cause_text}
 use Rattle.command_plans.specs.Parts.{end_at, refusal_of}
 use Rattle.command_plans.specs.declared.trouble.Complaint.{Complaint}
 use Rattle.command_plans.specs.declared.trouble.Trouble.{Trouble}
@@ -48,3 +48,10 @@ returns-in-Refused-BadMoves c =
     let at = c.in-Refused-BadMoves in
     line_is c.args.trouble at.field-0 _ at.name.now (codes ": moves refused: ") _ (moves_cause_text at.cause) _ at.is (rw at.is at at.field-0-is)
     (refl {a = codes "avrora: " ++ at.name.now ++ (codes ": moves refused: " ++ moves_cause_text at.cause ++ codes "\n")}) c.put_refusal-in-Refused-BadMoves.ensures c.moves_cause.ensures.text
+
+pub returns-in-Refused-BadPlaces : goal.returns-in-Refused-BadPlaces
+unfolding line_due
+returns-in-Refused-BadPlaces c =
+    let at = c.in-Refused-BadPlaces in
+    line_is c.args.trouble at.field-0 _ at.name.now (codes ": places refused: ") _ (places_cause_text at.cause) _ at.is (rw at.is at at.field-0-is)
+    (refl {a = codes "avrora: " ++ at.name.now ++ (codes ": places refused: " ++ places_cause_text at.cause ++ codes "\n")}) c.put_refusal-in-Refused-BadPlaces.ensures c.places_cause.ensures.text

@@ -2,7 +2,7 @@ use Rattle.std.proofs.Common.{◌≡◌, ◌∙◌, ◌∷◌, [], List, ap, cod
 use Rattle.std.proofs.lemmas.List.{take_all}
 use Rattle.std.proofs.lemmas.Result.{IfOk-weaker}
 use Rattle.clap.specs.Words.{App, app_of, new_app}
-use Rattle.command_words.specs.Apps.{cut_app, monitor_app, node_app, one_word_app, run_app, sweep_app, two_words_app, without_first}
+use Rattle.command_words.specs.Apps.{cut_app, monitor_app, node_app, one_word_app, run_app, sweep_app, two_words_app, watch_app, without_first}
 use Rattle.command_words.proofs.Tables.{met, local, form_met, form_met_of, one_more, all_added, with_all}
 use Rattle.command_words.proofs.building.parser.Goals as goal
 
@@ -21,7 +21,7 @@ subs =
     ∷ cut_app (codes "look") (codes "cycle")
     ∷ one_word_app (codes "check") (codes "file") ∷ one_word_app (codes "disasm") (codes "file")
     ∷ one_word_app (codes "asm") (codes "file") ∷ cut_app (codes "head") (codes "epochs")
-    ∷ cut_app (codes "save") (codes "epochs") ∷ two_words_app (codes "resume") (codes "state") ∷ sweep_app ∷ []
+    ∷ cut_app (codes "save") (codes "epochs") ∷ two_words_app (codes "resume") (codes "state") ∷ sweep_app ∷ watch_app ∷ []
 
 pub returns : goal.returns
 unfolding form_met subs

@@ -23,5 +23,6 @@ invariant_of-self-2 c =
       limit = c.self.invariant.limit;
       within = omega arith;
       order = c.self.invariant.order;
+      sized = c.self.invariant.sized;
       paused = (λ q. subst (λ (s : ScenarioOf). IsPaused (onward s i.state.value) c.min-end.result c.min-end.result c.rows_to.new.nodes.items c.rows_to.new.log.sends) same c.in_ok-rows.ensures.paused);
     }

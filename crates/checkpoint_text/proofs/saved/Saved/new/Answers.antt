@@ -10,6 +10,7 @@ use Rattle.fleet_flight.specs.Paused.{HaveBegun}
 use Rattle.checkpoint_text.specs.Onward.{SavedAt, origin_of}
 use Rattle.checkpoint_text.specs.Paused.{IsSaved}
 use Rattle.fleet_flight.proofs.Epoch.{first_paused}
+use Rattle.checkpoint_text.proofs.Sized.{all_sized}
 use Rattle.checkpoint_text.proofs.saved.Saved.new.Goals as goal
 
 pub record_of-requires-clause-nodes : goal.record_of-requires-clause-nodes
@@ -33,6 +34,7 @@ invariant_of-result c =
       limit = limit;
       within = omega arith;
       order = c.requires.order;
+      sized = all_sized sc st c.requires;
       paused = (λ e. first_paused (origin_of sc st) c.in_ok-nodes.nodes.items c.in_ok-log.log.sends c.requires.sends c.requires.rises
           (subst (λ (n : ℕ). HaveBegun (origin_of sc st) n c.in_ok-nodes.nodes.items) c.requires.count c.in_ok-nodes.ensures) (ap (λ (l : LogFacts). l.sends) c.in_ok-log.ensures ∙ sends));
     } in

@@ -40,5 +40,6 @@ invariant_of-self-2 c =
       limit = last;
       within = omega arith;
       order = c.self.invariant.order;
+      sized = c.self.invariant.sized;
       paused = (λ q. subst (λ (s : ScenarioOf). IsPaused (onward s i.state.value) c.min-next.result c.min-next.result c.pass_to.new.nodes.items c.pass_to.new.log.sends) same c.in_ok-pass_to.ensures);
     }
