@@ -1,11 +1,12 @@
 #!/usr/bin/env bash
-# What threads gain: bench/threads.sh [PROGRAM [BUSY]] (the program that ./avrora builds where absent), with so many programs beside
-# it that only reckon. Each network is run seven times, in
-# turns, with `run --plain`, with `run`, and as a yardstick as many times with `run --plain` at once as there are processors. It
-# prints the medians of the time on the wall, how many times as fast the run by threads is, how many times as much the yardstick
-# gets done in a time, what part of it the threads get, and the medians of the processor time of `run --plain` and of `run`. With
-# strace, it counts of one run by threads how often a node slept until another was far enough (it sleeps for a time at most), how
-# often a thread slept at the lock (that has no end), and the threads begun. It tells the samples. The traces are compared.
+# What threads gain: bench/threads.sh [PROGRAM [BUSY]] (without it, the program that ./avrora builds), with so many
+# programs beside it that only reckon. Each network is run seven times, in turns, with `run --plain`, with `run`, and as
+# a yardstick as many times with `run --plain` at once as there are processors. It prints the medians of the time on the
+# wall, and how many times as fast the run by threads is. It prints how many times as much the yardstick gets done in a
+# time, and what part of that the threads get. Then come the medians of the processor time of `run --plain` and of
+# `run`. With strace it counts, for one run by threads, how often a node slept until another was far enough (it sleeps
+# for a limited time), how often a thread slept at the lock (that has no limit), and the threads begun. It prints the
+# number of samples. It compares the traces.
 . "$(dirname "$0")/help.sh"
 set -eu
 . "$(dirname "$0")/program.sh"
