@@ -1,7 +1,7 @@
 #!/usr/bin/env bash
-# What a sample costs over a long record: bench/air.sh [SAMPLES] (2,000,000 where absent). 64 nodes that each hear four
-# others have sent 50, 500 and 5,000 bytes each; the samples are taken at the newest sends and drawn over the record. The
-# processor time of the run without a sample is taken off; the fastest of three.
+# What a sample costs over a long record: bench/air.sh [SAMPLES] (2,000,000 if not given). 64 nodes that each hear four
+# others have sent 50, 500 and 5,000 bytes each; the samples are taken at the newest sends and drawn over the record.
+# The processor time of the run without a sample is taken off; the fastest of three.
 . "$(dirname "$0")/help.sh"
 set -eu
 top=$(cd "$(dirname "$0")/.." && pwd)

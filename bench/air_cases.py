@@ -3,12 +3,13 @@
 
     bench/air_cases.py FOLDER
 
-writes drawn_steps.txt, drawn_states.txt, drawn_log.txt and drawn_taken.txt, which are of air_facts, and drawn_record.txt,
-which is of record_facts, into FOLDER (crates/command_facts/data), always the same bytes. drawn_taken.txt has for each record of drawn_record.txt the
-same steps up to its first cut, so that the record and the core without a record are asked the same.
+It writes into FOLDER (crates/command_facts/data) drawn_steps.txt, drawn_states.txt, drawn_log.txt and
+drawn_taken.txt, which are of air_facts, and drawn_record.txt, which is of record_facts. The bytes are always the
+same. For each record of drawn_record.txt, drawn_taken.txt has the same steps up to its first cut, so that the record
+and the core without a record are asked the same.
 
-It is the rules of docs/AIR.md once more, written plainly and slowly: to be heard, to be needed, to be consistent and to be
-allowed are each asked over all cycles or all sends that there are. It shares nothing with the crates that it tests.
+It is the rules of docs/AIR.md once more, written plainly and slowly. What is heard, needed, consistent or allowed is
+each asked over all cycles or all sends that there are. It shares nothing with the crates that it tests.
 """
 import random
 import sys

@@ -3,13 +3,14 @@
 
     bench/campaigns.py PROGRAM [RUNS]
 
-`radio` and `alone` are runs of 5,000,000 cycles of nodes, each checked by a case: three nodes of examples/packet.hex that send and
-listen, and one of bench/mixed.hex that computes. `drawn` are those of bench/network/drawn.campaign. Of each part the processor time
-of a campaign of RUNS runs (1,600) less that of one of a quarter of them, by the runs that it has more: so what it takes to start is
-not in it. Of the program that of the same runs, as their results have it. Workers are processes of this machine, or, where
-dask.distributed is installed, those of dask beside a scheduler, started as CAMPAIGNS.md says. What a run takes of all processors
-with one worker and with four tells how many times as fast four are as one, where each has a processor. First, how a campaign of a
-million variants begins. Other work on the machine adds to the clock, and to processor times as well, where it has to share caches.
+`radio` and `alone` are runs of 5,000,000 cycles of nodes, each checked by a case: three nodes of examples/packet.hex
+that send and listen, and one of bench/mixed.hex that computes. `drawn` are those of bench/network/drawn.campaign. The
+figure of each part is the processor time of a campaign of RUNS runs (1,600) less that of one with a quarter of them,
+divided by how many runs it has more. So what it takes to start is not in it. The program's figure is of the same
+runs, as their results have it. Workers are processes of this machine, or, where dask.distributed is installed, those
+of dask beside a scheduler, started as CAMPAIGNS.md says. What a run takes of all processors with one worker and with
+four tells how many times as fast four are as one, if each has a processor. First, how a campaign of a million
+variants begins. Other work on the machine adds to the clock, and also to processor times if it shares caches.
 """
 import contextlib
 import importlib.util

@@ -4,8 +4,8 @@ count.
 
     bench/client.py [RUNS [WORKERS...]]
 
-The workers are a mock in this process: each answers a batch as soon as it is waited for, and says that a run took 8 ms.
-So what is measured is all that the client does itself: making runs and their digests, sharing them out, judging
+The workers are a mock in this process: each answers a batch as soon as the client waits for it, and says that a run
+took 8 ms. So the figure is all that the client does itself: making runs and their digests, sharing them out, judging
 answers, and the file of results. What dask takes of the client to send and to receive is not in it.
 """
 import collections

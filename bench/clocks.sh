@@ -1,5 +1,5 @@
 #!/usr/bin/env bash
-# What a call on the clock words costs on one thread: bench/clocks.sh [COUNT] (100,000,000 calls where absent). For each
+# What a call on the clock words costs on one thread: bench/clocks.sh [COUNT] (100,000,000 calls if not given). For each
 # of the three calls the program makes that many in a loop, five times; the fastest run's processor time is printed for
 # one call, the loop around it included.
 . "$(dirname "$0")/help.sh"

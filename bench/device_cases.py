@@ -1,12 +1,13 @@
 #!/usr/bin/env python3
-"""Writes data/registers.txt, data/selects.txt and data/lagging.txt of crates/command_facts: what every I/O register reads after
-a write, or why the write stops; when each timer has its events behind each of its clock selects; and accesses to the board as
-a node runs it, between stretches of cycles.
+"""Writes data/registers.txt, data/selects.txt and data/lagging.txt of crates/command_facts. They have what every I/O
+register reads after a write, or why the write stops; when each timer has its events after each of its clock selects;
+and accesses to the board as a node runs it, between stretches of cycles.
 
     python3 bench/device_cases.py crates/command_facts
 
-The answers are those of bench/machine.py, which is docs/MACHINE.md once more. What the machine stops for is besides looked
-for here: of each register that some write stops, each bit alone is written too, and the largest byte that does not stop.
+The answers are those of bench/machine.py, which is docs/MACHINE.md once more. This script also looks for what the
+machine stops for: to each register that some write stops, it writes each bit alone, and the largest byte that does
+not stop.
 """
 import random
 import sys

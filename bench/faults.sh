@@ -1,8 +1,9 @@
 #!/usr/bin/env bash
-# What happens when the system fails: bench/faults.sh [PROGRAM] (the program that ./avrora builds where absent). It runs the
-# program with memory refused at each allocation in turn, with outputs that are full or closed, with files that are none, and
-# with texts of the greatest length and one byte more, and compares status, error stream and output with docs/FAULTS.md. The gate
-# cannot hold this: it wants devices, pipes and a C compiler. It prints a line a check; its exit status is 1 where one failed.
+# What happens when the system fails: bench/faults.sh [PROGRAM] (without it, the program that ./avrora builds). It runs
+# the program with memory refused at each allocation in turn, with outputs that are full or closed, with files that are
+# none, and with texts of the greatest length and one byte more. It compares status, error stream and output with
+# docs/FAULTS.md. The gate cannot hold this, as it needs devices, pipes and a C compiler. It prints a line for each
+# check; its exit status is 1 if one failed.
 . "$(dirname "$0")/help.sh"
 set -u
 top=$(cd "$(dirname "$0")/.." && pwd)

@@ -3,9 +3,10 @@
 
     python3 bench/instruction_cases.py crates/command_facts
 
-kindred.txt has for each mnemonic rows that every kindred rule answers otherwise: the same instruction with or without the
-carry, with Z kept or not, signed or unsigned, with another pointer, another flag or another flash address. A row is wanted on
-which all of them fail; where there is none, two or three rows together do it. The answers are those of bench/machine.py.
+kindred.txt has rows for each mnemonic that every kindred rule answers otherwise. A kindred rule is the same
+instruction with or without the carry, with Z kept or not, signed or unsigned, with another pointer, another flag or
+another flash address. Best is a row on which all of them fail; if there is none, two or three rows together do it.
+The answers are those of bench/machine.py.
 """
 import random
 import sys

@@ -1,8 +1,8 @@
 #!/usr/bin/env bash
-# Speed and memory of whole networks on one thread: bench/networks.sh [PROGRAM] (the program that ./avrora builds where
-# absent). It draws up scenarios over the images of bench/ and runs each five times with `run --plain`; of the fastest run
-# it prints the processor time in user mode, node cycles in a second of it, rows in a second of it, and KiB at most. The
-# first line is `node` over as many cycles as each network's nodes have together.
+# Speed and memory of whole networks on one thread: bench/networks.sh [PROGRAM] (without it, the program that ./avrora
+# builds). It makes scenarios over the images of bench/ and runs each five times with `run --plain`. For the fastest run
+# it prints the processor time in user mode, node cycles and rows per second of that time, and the most KiB. The first
+# line is `node` over as many cycles as each network's nodes have together.
 . "$(dirname "$0")/help.sh"
 set -eu
 . "$(dirname "$0")/program.sh"

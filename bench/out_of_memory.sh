@@ -1,10 +1,11 @@
 #!/usr/bin/env bash
-# Runs by threads that memory does not suffice for: bench/out_of_memory.sh [PROGRAM] (the program that ./avrora builds where absent).
-# The network of eight nodes of bench/make0 runs with a window of 20,000 cycles, once in its first epoch and once in its second, 25
-# times each, with from 4 to 64 MB of addresses in all. Wherever an allocation fails, in a node while others wait for it too, the run
-# has to end within ten seconds: with status 6, the line `avrora: out of memory` and a prefix of what is due, or with status 0 and all
-# of it. At least ten runs of each have to end for want of memory, and of the second one at least with rows written. It takes some
-# seconds. Exit status: 0 all did, 1 one did not, 2 bad words.
+# Runs by threads that memory does not suffice for: bench/out_of_memory.sh [PROGRAM] (without it, the program that
+# ./avrora builds). The network of eight nodes of bench/make0 runs with a window of 20,000 cycles, once in its first
+# epoch and once in its second, 25 times each, with 4 to 64 MB of addresses in all. Wherever an allocation fails, also
+# in a node while others wait for it, the run must end within ten seconds. It ends with status 6, the line `avrora: out
+# of memory` and a prefix of what is due, or with status 0 and all of it. At least ten runs of each kind must end out of
+# memory, and at least one of the second kind with rows written. It takes some seconds. Exit status: 0 all did, 1 one
+# did not, 2 bad words.
 set -eu
 case ${1:-} in
 --help | -h) sed -n '2,/^set/{/^set/d;s/^# \{0,1\}//;p}' "$0" && exit 0 ;;

@@ -1,11 +1,12 @@
 #!/usr/bin/env python3
 """What a long path costs: bench/paths.py [PROGRAM] times loops of so many register instructions, all of one kind or drawn.
 
-Each instruction is executed by a jump through a table, and the host's processor guesses where that goes from the jumps before
-it. It guesses a loop of one kind however long it is. Of a drawn one it remembers so many jumps, and beyond that most guesses
-are wrong: no count of instructions tells it. A line for each length has the nanoseconds of an instruction, of the fastest of
-fifteen runs of 20,000,000 cycles, and where a C compiler, Debian's libsimavr-dev and avr-objcopy are installed those of the
-drawn loop on simavr, of the fastest of three. PROGRAM is one that was built (that of ./avrora where absent). It takes a minute.
+Each instruction is executed by a jump through a table, and the host's processor guesses where that goes from the
+jumps before it. It guesses a loop of one kind however long it is. Of a drawn one it remembers so many jumps, and
+beyond that most guesses are wrong: no count of instructions tells it. A line for each length has the nanoseconds of
+an instruction, of the fastest of fifteen runs of 20,000,000 cycles. If a C compiler, Debian's libsimavr-dev and
+avr-objcopy are installed, it also has those of the drawn loop on simavr, of the fastest of three runs. PROGRAM is one
+that was built (without it, that of ./avrora). It takes a minute.
 """
 import random
 import shutil

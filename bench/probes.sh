@@ -1,8 +1,9 @@
 #!/usr/bin/env bash
-# Speed that no proof tells: bench/probes.sh [PROGRAM] counts host instructions for one AVR instruction of small programs, each of
-# which does one thing (the table below), and compares them with the most that each may take. It proves nothing: PROGRAM is one
-# that was built (that of ./avrora where absent, which proves it first). It takes under three minutes, and says that it is skipped
-# where valgrind is missing. Exit status: 0 all take no more, 1 one takes more or fails.
+# Speed that no proof tells: bench/probes.sh [PROGRAM] counts host instructions for one AVR instruction of small
+# programs, each of which does one thing (the table below), and compares them with the most that each may take. It
+# proves nothing: PROGRAM is one that was built (without it, that of ./avrora, which proves it first). It takes under
+# three minutes, and says that it is skipped if valgrind is missing. Exit status: 0 all take no more, 1 one takes more
+# or fails.
 #
 # Counts hardly vary from run to run or from machine to machine. The most is a tenth above what was counted last; where a change
 # makes a count fall, lower its line.

@@ -1,5 +1,5 @@
-# For the scripts beside it that run the program on networks; they read this in with their own words, of which the first may
-# name the program (the one that ./avrora builds where absent). It sets `top`, `program` and `work`, a folder for the run.
+# For the scripts beside it that run the program on networks. They source this with their own words; the first may name
+# the program (without it, the one that ./avrora builds). It sets `top`, `program` and `work`, a folder for the run.
 top=$(cd "$(dirname "${BASH_SOURCE[0]}")/.." && pwd)
 program=${1:-$top/crates/avrora_program/out/rlib/avrora_program}
 work=$(mktemp -d)

@@ -1,8 +1,9 @@
 #!/usr/bin/env bash
-# Runs by threads where the system refuses some of them, or all: bench/refused.sh [PROGRAM] (the program that ./avrora builds
-# where absent). As nobody, with room for 1, 2, 3, 5, 9 and 64 processes and threads in all, with little stack, and with an
-# address space for few stacks of threads, each run has to write what a run on one thread writes; in a small address space it may
-# end for want of memory, with status 6 and a prefix of that. It takes root, for setpriv.
+# Runs by threads where the system refuses some of them, or all: bench/refused.sh [PROGRAM] (without it, the program
+# that ./avrora builds). The runs are those of the user nobody, with room for 1, 2, 3, 5, 9 and 64 processes and threads
+# in all, with little stack, and with an address space for few stacks of threads. Each must write what a run on one
+# thread writes. In a small address space it may end out of memory, with status 6 and a prefix of that. The script needs
+# root, for setpriv.
 . "$(dirname "$0")/help.sh"
 set -eu
 . "$(dirname "$0")/program.sh"

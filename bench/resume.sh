@@ -1,10 +1,10 @@
 #!/usr/bin/env bash
-# Speed and memory of `save` and `resume`: bench/resume.sh [PROGRAM] (the program that ./avrora builds where absent). Each network
-# is cut behind its first epoch of 262,144 cycles. Of the fastest of five runs it prints the processor time in user mode that the
-# cycles behind the cut take with `resume`, and with `run --plain` (the whole run less `head`), and how many times as long that
-# is; where valgrind is installed, the same by host instructions, where `resume` is taken less what it takes to read the state
-# and to run one cycle on. Then what a state of 64 nodes takes to write and to read, what large and hostile texts take, and the
-# memory of long runs.
+# Speed and memory of `save` and `resume`: bench/resume.sh [PROGRAM] (without it, the program that ./avrora builds).
+# Each network is cut after its first epoch of 262,144 cycles. For the fastest of five runs it prints the processor time
+# in user mode that the cycles after the cut take with `resume`, and with `run --plain` (the whole run less `head`), and
+# how many times as long that is. If valgrind is installed, it prints the same in host instructions; from `resume` it
+# takes off what it takes to read the state and to run one cycle on. Then it prints what a state of 64 nodes takes to
+# write and to read, what large and hostile texts take, and the memory of long runs.
 . "$(dirname "$0")/help.sh"
 set -eu
 epoch=262144

@@ -1,11 +1,11 @@
 #!/usr/bin/env bash
-# Simulated cycles per second of one node, and its peak memory: bench/run.sh [CYCLES [PROGRAM]] (50,000,000 where absent). It
-# runs the program as ./avrora built it, or that one, by `run --plain` without a window, forty times for each image, and prints
-# the processor time of the fastest run, the start included.
-# Where a C compiler, Debian's libsimavr-dev and avr-objcopy are installed, each image but those of the radio and of
-# sleep, at which simavr idles by the clock, runs on simavr behind each four of those, with the ratio of the fastest. Where
-# valgrind is installed, host instructions per AVR instruction follow, counted between 100,000 and 300,000 cycles; they hardly
-# vary.
+# Simulated cycles per second of one node, and its peak memory: bench/run.sh [CYCLES [PROGRAM]] (50,000,000 if not
+# given). It runs PROGRAM, or the one that ./avrora built, by `run --plain` without a window, forty times for each
+# image. It prints the processor time of the fastest run, the start included. If a C compiler, Debian's libsimavr-dev
+# and avr-objcopy are installed, each image also runs on simavr after each four of those runs, and the ratio of the
+# fastest is printed. This leaves out the images of the radio and of sleep, at which simavr idles by the clock. If
+# valgrind is installed, host instructions per AVR instruction follow, counted between 100,000 and 300,000 cycles; they
+# hardly vary.
 . "$(dirname "$0")/help.sh"
 set -eu
 top=$(cd "$(dirname "$0")/.." && pwd)

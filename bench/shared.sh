@@ -1,8 +1,8 @@
 #!/usr/bin/env bash
-# What a post and a sample cost through the lock: bench/shared.sh [ROUNDS] (2,000 where absent). In each round node 0 posts
-# 1,000 bytes on a new air, raising its clock past each, and node 1 takes 1,000 samples of them: first on one thread, one node
-# after the other, then on two threads at once. The fastest of five by the clock on the wall, with what a run of no rounds
-# takes taken off; the opening of each air is part of its posts.
+# What a post and a sample cost through the lock: bench/shared.sh [ROUNDS] (2,000 if not given). In each round node 0
+# posts 1,000 bytes on a new air, raising its clock past each, and node 1 takes 1,000 samples of them: first on one
+# thread, one node after the other, then on two threads at once. The fastest of five by the clock on the wall, with what
+# a run of no rounds takes taken off; the opening of each air is part of its posts.
 . "$(dirname "$0")/help.sh"
 set -eu
 top=$(cd "$(dirname "$0")/.." && pwd)

@@ -1,10 +1,10 @@
 #!/usr/bin/env bash
-# What threads gain: bench/threads.sh [PROGRAM [BUSY]] (the program that ./avrora builds where absent), with so many programs beside
-# it that only reckon. Each network is run seven times, in
-# turns, with `run --plain`, with `run`, and as a yardstick as many times with `run --plain` at once as there are processors. It
-# prints the medians of the time on the wall, how many times as fast the run by threads is, how many times as much the yardstick
-# gets done in a time, and what part of it the threads get. With strace, it counts the calls by which threads wait and wake, and the
-# samples. The traces are compared.
+# What threads gain: bench/threads.sh [PROGRAM [BUSY]] (without it, the program that ./avrora builds), with so many
+# programs beside it that only reckon. Each network is run seven times, in turns, with `run --plain`, with `run`, and as
+# a yardstick as many times with `run --plain` at once as there are processors. It prints the medians of the time on the
+# wall, and how many times as fast the run by threads is. It prints how many times as much the yardstick gets done in a
+# time, and what part of that the threads get. With strace it counts the calls by which threads wait and wake, and the
+# samples. It compares the traces.
 . "$(dirname "$0")/help.sh"
 set -eu
 . "$(dirname "$0")/program.sh"

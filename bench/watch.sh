@@ -1,6 +1,7 @@
 #!/usr/bin/env bash
-# Speed and memory of `monitor` and `sniff`: bench/watch.sh [PROGRAM] (the program that ./avrora builds where absent). It runs
-# each call five times; of the fastest it prints the processor time in user mode and in the system, and KiB at most.
+# Speed and memory of `monitor` and `sniff`: bench/watch.sh [PROGRAM] (without it, the program that ./avrora builds). It
+# runs each call five times; of the fastest it prints the processor time in user mode and in the system, and KiB at
+# most.
 . "$(dirname "$0")/help.sh"
 set -eu
 . "$(dirname "$0")/program.sh"

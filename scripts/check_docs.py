@@ -7,12 +7,11 @@ lines with what they print.
     scripts/check_docs.py --counts         first puts the counts of stored cases right
     scripts/check_docs.py --index          first writes the indexes: of lemmas, proofs/Lib.antt of each crate, and of scripts, docs/SCRIPTS.md
 
-A command is a line `$ COMMAND` of a block that begins with ```console. It runs in a copy of the repository, in its top folder or
-where the last `$ cd DIR` of the document led, and prints first the lines that stand below it; a line `...` stands for any lines,
-at the end for the rest. With no line below it ends with status 0. A command whose program or package is not installed is skipped
-by name. A count of cases is written
-`N cases [WORD]`, where WORD is that of the stored run.
-Exit status: 0 all is right, 1 something is wrong, 2 bad words.
+A command is a line `$ COMMAND` of a block that begins with ```console. It runs in a copy of the repository, in its
+top folder or where the last `$ cd DIR` of the document led. The lines below it must be the first that it prints; a
+line `...` stands for any lines, at the end for the rest. With no line below, it must end with status 0. A command
+whose program or package is not installed is skipped by name. A count of cases is written `N cases [WORD]`, where WORD
+is that of the stored run. Exit status: 0 all is right, 1 something is wrong, 2 bad words.
 """
 import argparse
 import contextlib

@@ -3,10 +3,10 @@
 
     scripts/from_gate.py [ROOM]    ROOM is the folder that prove.py keeps things in; without it, that of this checkout's `./avrora`
 
-The gate, `rt ci`, keeps what passed beside the kit, each library under a sum of all that it was made from: the kit, the sources of
-the crate, its line of crates.txt, and the libraries below it. What it kept of the sources that stand here is copied to ROOM; what
-it did not keep prove.py proves. The program itself is not taken: prove.py proves and builds it over these libraries, which are the
-files that its own checks write, byte for byte.
+The gate, `rt ci`, keeps what passed beside the kit. Each library has a sum of all that it was made from: the kit, the
+sources of the crate, its line of crates.txt, and the libraries below it. This script copies what the gate kept of the
+sources that stand here to ROOM; prove.py proves the rest. It does not take the program itself: prove.py proves and
+builds that over these libraries, which are the files that its own checks write, byte for byte.
 
 It uses the kit's own module `rt`, so it may need a change for another kit; then it takes nothing, and says so.
 Exit status: 0 it is told how many libraries lie ready, 2 bad words.

@@ -1,12 +1,12 @@
 #!/usr/bin/env python3
-"""Runs the gate from nothing and prints, as a table, the processor seconds of each crate: its proof, the proof and the
-runs of its tests, its must-fail edits, and the build and the runs of its program.
+"""Runs the gate from nothing and prints, as a table, the processor seconds of each crate. Its columns are the proof,
+the proof and the runs of its tests, its must-fail edits, and the build and the runs of its program.
 
     scripts/gate.py            runs `rt ci` at the top of the repository, which begins from nothing with the kit of today
     scripts/gate.py WORD ..    runs `rt ci WORD ..`, for a kit whose gate takes words (with some, --anew begins from nothing)
 
-It looks at the processes below rt twice a second. What a process and its ended children used is the kernel's count; the
-last half second of each is lost, and told with what rt itself used.
+It looks at the processes below rt twice a second. What a process and its ended children used is the kernel's count.
+The last half second of each is lost to its crate, and counted with what rt itself used.
 """
 import os
 import re

@@ -12,8 +12,8 @@ INDEX = "docs/SCRIPTS.md"
 HEAD = """\
 # Scripts
 
-For who changes the program or its documents: what can be run here beside `./avrora` and the tools. Each script takes
-`--help`, which names its words. `scripts/check_docs.py --index` writes this page.
+For people who change the program or its documents: what can be run here besides `./avrora` and the tools. Each script
+takes `--help`, which names its words. `scripts/check_docs.py --index` writes this page.
 
 | Script | What it does first of all |
 |---|---|

@@ -1,12 +1,13 @@
-# What the two launchers of the program share: `avrora` at the top of a checkout, and `bin/avrora` of a release. They read this in
-# once they have set
+# What the two launchers of the program share: `avrora` at the top of a checkout, and `bin/avrora` of a release. They source this
+# after they have set
 #   called    how a user calls them, as the usage shows it
 #   formats   the path of FORMATS.md
-#   own_help  lines of the usage for words that are the launcher's alone, or nothing
+#   own_help  lines of the usage for words that only the launcher takes, or nothing
 #   notice    a sentence of the usage about the first command, or nothing
-# and they have the functions `version`, which writes the lines of --version; `find_program`, which sets `program` to the path of
-# the program, or ends with NOT_THERE and one line that says why; and `own_words`, which does what its words ask and ends, if they
-# are the launcher's alone.
+# They must also have three functions:
+#   version       writes the lines of --version
+#   find_program  sets `program` to the path of the program, or ends with NOT_THERE and one line that says why
+#   own_words     if the words are the launcher's alone, does what they ask and ends
 
 # The exit statuses that a launcher gives or explains; the program's own are below NOT_THERE.
 readonly NOT_WRITTEN=1 BAD_WORDS=2 CANNOT_READ=3 NO_MEMORY=6 NO_WORDS=9 NOT_THERE=10

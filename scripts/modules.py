@@ -3,9 +3,10 @@
 
     scripts/modules.py CRATE [ROOM]    ROOM keeps the libraries below it, as prove.py does; it is made where it is not there
 
-The check writes each module that it has checked to a folder; what lies between two such files is the time of the second.
-Of a function `f`, `f.Lts` and `f.Tie` are made from its code (its paths, and what lives on each of them), `f.Proof` is the
-search for its proof; `proofs.FILE` is a file of lemmas. Seconds are of clock: do it where little else is at work.
+The check writes each module that it has checked to a folder; what lies between two such files is the time of the
+second. For a function `f`, `f.Lts` and `f.Tie` are made from its code (its paths, and what lives on each of them),
+and `f.Proof` is the search for its proof. `proofs.FILE` is a file of lemmas. Seconds are of the clock: run it while
+little else is at work.
 """
 import os
 import subprocess

@@ -5,7 +5,8 @@ which bytes the program has. Here it is written and read, and a program is compa
     scripts/proved.py check PROGRAM   whether PROGRAM is that of a release of the commit of this checkout; else a line why not
     scripts/proved.py about PROGRAM   the kit that PROGRAM was proved with, and by which release
 
-What PROVED says is taken at its word: whoever hands out a release answers for it. Exit status: 0 it is, 1 it is not, 2 bad words.
+PROVED is taken at its word: whoever hands out a release answers for it. Exit status: 0 it is, 1 it is not, 2 bad
+words.
 """
 import hashlib
 import os

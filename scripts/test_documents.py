@@ -1,6 +1,6 @@
 #!/usr/bin/env python3
-"""Tests of what check_docs.py asks of documents beside their maps: that each script of scripts/ and bench/ takes
---help, writes what stands at its top, names itself and does nothing; and that what is told of a trial is of what stands
+"""Tests of what check_docs.py asks of documents besides their maps. Each script of scripts/ and bench/ takes --help,
+writes what stands at its top, names itself and does nothing else. What a document tells of a trial is of what stands
 here.
 
     scripts/test_documents.py

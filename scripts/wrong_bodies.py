@@ -3,18 +3,20 @@
 
     scripts/wrong_bodies.py CRATE [--only WORD] [--kinds PATTERN] [--list] [--room FOLDER] [--minutes N]
 
-Of each function (but `drop`, and those that are made for a test) it takes the body and changes one thing: it returns at once, gives the
-other of two answers, changes a number or a constant, leaves a call out, empties an arm, turns a test, names the other variant of an enum
-of the crate. Functions none of which calls another are changed in one copy of the crate, and checked by `--only` in one run. A number
-that is changed is changed in the answers of its function too, in a second try, so that a refusal is one of the contract and not of a
-literal. `Err(NoMemory)` is not tried: every contract that has it lets it through.
+It takes the body of each function (except `drop`, and those that are made for a test) and changes one thing. The body
+then returns at once, gives the other of two answers, has another number or constant, leaves a call out, has an empty
+arm, turns a test, or names the other variant of an enum of the crate. Functions none of which calls another are
+changed in one copy of the crate, and checked by `--only` in one run. A number that is changed is changed in the
+answers of its function too, in a second try, so that a refusal is one of the contract and not of a literal.
+`Err(NoMemory)` is not tried: every contract that has it lets it through.
 
-A line for each body that is proved: FILE:LINE FUNCTION: what was changed. The last line counts those that were proved, refused, and not
-read by the compiler. Which stored case tells of a body that is proved, or why none can, stands in docs/CASES.md ("Bodies that no clause
-refuses"); what stands there is marked `known`. --list prints the bodies and checks nothing. --room keeps the libraries below the crate, as
-prove.py does, which it makes where they are missing (scripts/from_gate.py ROOM takes them from the gate). --minutes ends it early, and
-it says how many were left. It proves, so it takes a processor for minutes. Exit status: 0 each body that is proved is known, 1 one is
-not, 2 bad words, 3 the crate itself is not proved.
+A line for each body that is proved: FILE:LINE FUNCTION: what was changed. The last line counts those that were
+proved, refused, and not read by the compiler. docs/CASES.md ("Bodies that no clause refuses") says which stored case
+tells of a body that is proved, or why none can; what stands there is marked `known`. --list prints the bodies and
+checks nothing. --room keeps the libraries below the crate, as prove.py does, and makes those that are missing
+(scripts/from_gate.py ROOM takes them from the gate). --minutes ends it early, and it says how many were left. It
+proves, so it takes a processor for minutes. Exit status: 0 each body that is proved is known, 1 one is not, 2 bad
+words, 3 the crate itself is not proved.
 """
 import argparse
 import re

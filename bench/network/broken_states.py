@@ -3,10 +3,11 @@
 
     bench/network/broken_states.py PROGRAM [--count COUNT] [--seed SEED]
 
-draws states, changes each in one way (a number at its bound or beyond, a line that is missing or stands twice, another
-spelling, sends out of order, ..), gives it to `PROGRAM resume FILE STATE`, and compares status and line with what `states.py`
-says of it: 2,000 drawn changes where no COUNT is given. Besides, each number of a state takes the values at its bounds and beyond. It
-ends with counts; where an answer differs it tells how and keeps the files, and its exit status is 1.
+It draws states and changes each in one way: a number at its bound or beyond, a line that is missing or stands twice,
+another spelling, sends out of order, and so on. It gives the state to `PROGRAM resume FILE STATE`, and compares
+status and line with what `states.py` says of it. Without COUNT it draws 2,000 changes. Also, each number of a state
+takes the values at its bounds and beyond. It ends with counts. If an answer differs, it tells how and keeps the
+files, and its exit status is 1.
 """
 import argparse
 import random

@@ -1,5 +1,5 @@
-"""What is seen of a run of the slow simulator beside this file, by whole states: behind each cycle all bytes of each node are compared
-with those before it, and the address of each instruction that begins is written down."""
+"""What is seen of a run of the slow simulator beside this file, by whole states. After each cycle all bytes of each
+node are compared with those before it, and the address of each instruction that begins is written down."""
 from places import AT, BYTE, KINDS
 
 SRAM_FIRST, SIZE = 0x100, 0x1100

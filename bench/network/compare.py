@@ -3,9 +3,10 @@
 
     bench/network/compare.py PROGRAM [COUNT [FIRST]]
 
-runs `PROGRAM run FILE` and `PROGRAM run --plain FILE` on COUNT drawn networks (100), from number FIRST (0) on, each tenth a
-long one, and on another of each, in which one byte is just heard, or just not. It ends with the counts of what was
-compared. Where a trace differs it tells the first line that does, keeps the files, and its exit status is 1.
+It runs `PROGRAM run FILE` and `PROGRAM run --plain FILE` on COUNT drawn networks (100), from number FIRST (0) on;
+each tenth is a long one. It also runs a second version of each network, in which one byte is just heard, or just not.
+It ends with the counts of what was compared. If a trace differs, it tells the first line that does, keeps the files,
+and its exit status is 1.
 """
 import shutil
 import subprocess

@@ -4,8 +4,9 @@
     bench/network/faults.py FOLDER        FOLDER is crates/command_facts: writes its files of these cases in data/,
                                           and what they are to come to in stdout
 
-Always the same bytes. A failing call's status and its line follow from docs/FORMATS.md; how many writes an output takes, from
-its length and the bytes that it takes at a call, where the rows of an epoch are written before the next epoch runs.
+Always the same bytes. A failing call's status and its line follow from docs/FORMATS.md. How many writes an output
+takes follows from its length and the bytes that it takes at a call; the rows of an epoch are written before the next
+epoch runs.
 """
 import re
 import sys

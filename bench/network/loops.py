@@ -3,11 +3,12 @@
 
     bench/network/loops.py PROGRAM [COUNT [FIRST]]
 
-draws COUNT networks of eight images (100), from number FIRST (0) on: polls, delays and their look-alikes, by all sources of an
-interrupt, with the flag I on and off, in handlers too, where lines are up. No node hears another. The slow simulator runs a network
-once, and tells each instruction. `PROGRAM run --plain FILE` is to write these rows; those of a window, for windows that begin in each of
-sixteen cycles behind a jump back, so in each cycle of a round of each loop that a node is in; those of a late window; and with no
-window those that are told all the same. It ends with the counts of what was compared. Where a trace differs it tells the first line
+It draws COUNT networks of eight images (100), from number FIRST (0) on. They have polls, delays and their
+look-alikes, by all sources of an interrupt, with the flag I on and off, also in handlers, where lines are up. No node
+hears another. The slow simulator runs a network once, and tells each instruction. `PROGRAM run --plain FILE` must
+write these rows. It must also write those of a window. Windows begin in each of sixteen cycles after a jump back, so
+in each cycle of a round of each loop that a node is in; one is late. Without a window it must write those rows that
+are written all the same. It ends with the counts of what was compared. If a trace differs, it tells the first line
 that does, keeps the files, and its exit status is 1.
 """
 import random

@@ -1,7 +1,7 @@
 """One node: an ATmega128 with a byte radio, cycle by cycle, as docs/MACHINE.md and docs/AIR.md have it.
 
-It is written from these documents and the Instruction Set Manual alone, shares nothing with the crates, and is made to be
-read, not to be fast: each cycle the processor does its part, then each device does its own.
+It is written from these documents and the Instruction Set Manual alone, shares nothing with the crates, and is made
+to be read, not to be fast. In each cycle the processor does its part, then each device does its own.
 """
 from devices import Radio, Spi, Stop, Timer, Usart
 from instructions import decode

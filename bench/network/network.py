@@ -1,5 +1,5 @@
 #!/usr/bin/env python3
-"""Runs a scenario (docs/FORMATS.md) and writes the trace of the whole network, by the definitions: all nodes make one
+"""Runs a scenario (docs/FORMATS.md) and writes the trace of the whole network, by the definitions. All nodes make one
 cycle after the other in order of their numbers, and a sample hears what the list of all sends gives.
 
     bench/network/network.py FILE

@@ -3,10 +3,11 @@
 
     bench/network/odd_runs.py PROGRAM [--count COUNT] [--first FIRST]
 
-draws COUNT networks (200), from number FIRST (0) on, that end some thousand cycles behind the end of an epoch, and a state of each:
-devices and processors anywhere within their bounds, sends closer than a byte time, a radio that is busy for long. It compares
-what `PROGRAM resume FILE STATE` writes with what the definitions give, byte for byte, and ends with counts of what was compared.
-Where something differs it tells the first line that does, keeps the files, and its exit status is 1.
+It draws COUNT networks (200), from number FIRST (0) on, that end some thousand cycles after the end of an epoch, and
+a state of each. In these devices and processors are anywhere within their bounds, sends are closer than a byte time,
+and a radio is busy for long. It compares what `PROGRAM resume FILE STATE` writes with what the definitions give, byte
+for byte, and ends with counts of what was compared. If something differs, it tells the first line that does, keeps
+the files, and its exit status is 1.
 """
 import argparse
 import random

@@ -3,12 +3,13 @@
 
     bench/network/resumed.py PROGRAM [--step STEP] [--slow SLOW]
 
-For each network of examples/, of bench/ and of the stored cases (those that end too early run for longer) and for networks that do
-something odd about the end of an epoch, each STEP cycles of it (7): what `PROGRAM head FILE N` writes and then what `PROGRAM resume`
-makes of what `PROGRAM save FILE N` wrote is what `PROGRAM run --plain FILE` writes, with N = 1, 2 and the last that there is; and a
-save of the same network with another window and limit is the same state. Of each SLOWth odd network (8) the state, and the rows from
-there on, are those of the slow simulator beside this file. It ends with counts, also of what was found in the states; where something differs it
-tells what and keeps the files, and its exit status is 1.
+It takes each network of examples/, of bench/ and of the stored cases; those that end too early run for longer. It
+also takes networks that do something odd about the end of an epoch, at each STEPth cycle of it (7). With N = 1, 2 and
+the last that there is, `PROGRAM head FILE N` and then `PROGRAM resume` with what `PROGRAM save FILE N` wrote must
+write what `PROGRAM run --plain FILE` writes. A save of the same network with another window and limit must be the
+same state. For each SLOWth odd network (8) the state, and the rows from there on, must be those of the slow simulator
+beside this file. It ends with counts, also of what was found in the states. If something differs, it tells what and
+keeps the files, and its exit status is 1.
 """
 import argparse
 import re

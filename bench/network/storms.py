@@ -3,9 +3,10 @@
 
     bench/network/storms.py PROGRAM [COUNT [FIRST]]
 
-draws COUNT networks of eight images (100), from number FIRST (0) on, and compares them as loops.py does: up to four timers with small
-tops, interrupts that come one behind another, TIFR and ETIFR cleared and counts read in loops, compare values written while timers
-stand and run, sleeps that are woken often, and instructions of two to four cycles in which flags are set.
+It draws COUNT networks of eight images (100), from number FIRST (0) on, and compares them as loops.py does. They have
+up to four timers with small tops, interrupts that come one after another, and TIFR and ETIFR cleared and counts read
+in loops. Compare values are written while timers stand and run, sleeps are woken often, and flags are set in
+instructions of two to four cycles.
 """
 import random
 import sys

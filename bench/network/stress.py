@@ -1,13 +1,14 @@
 #!/usr/bin/env python3
-"""Looks for runs by threads that differ from the run on one thread, or do not end: what no contract says is that a node that
+"""Looks for runs by threads that differ from the run on one thread, or do not end: no contract says that a node that
 waits is woken.
 
     bench/network/stress.py PROGRAM [COUNT [FIRST]]
 
-draws COUNT networks (100) of up to 64 nodes, from number FIRST (0) on, some of many epochs, and runs each with `run --plain`
-once and with `run` three times: as it is, beside a busy program for each processor, and where the system allows only few
-threads (as root; for somebody else this run is as the first). A run by threads has a minute beyond ten times that on one
-thread. It ends with counts; where a run differs or does not end it keeps the files, and its exit status is 1.
+It draws COUNT networks (100) of up to 64 nodes, from number FIRST (0) on, some of many epochs. It runs each with `run
+--plain` once and with `run` three times: as it is, beside a busy program for each processor, and with only few
+threads allowed by the system (as root; for other users this run is as the first). A run by threads has a minute more
+than ten times that on one thread. It ends with counts. If a run differs or does not end, it keeps the files, and its
+exit status is 1.
 """
 import os
 import random

@@ -4,8 +4,8 @@ read again.
     seen.py FILE    whether all files that FILE names are as they were seen, and `rt` is where it was: status 0 or 1
 
 The time of a change to a file's place, content or rights (ctime) cannot be set back, so a file that is swapped for
-another of the same size and times is seen. A clock of files has steps, though: a file that changed less than MARGIN
-before it was noted may change once more within the same step, so it is noted as one that is to be read again.
+another of the same size and times is seen. But a clock of files has steps: a file that changed less than MARGIN
+before it was noted may change once more within the same step. So it is noted as one that must be read again.
 
 As a script this runs before each command of `./avrora`, so it asks the system by `posix` alone and imports nothing that
 takes time.
