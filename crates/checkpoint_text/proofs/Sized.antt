@@ -1,6 +1,5 @@
 -- The SRAM of each node of a state has its size.
 use Rattle.std.proofs.Common.{◌≡◌, ℕ, [], length, refl, ◌∙◌, arith}
-use Rattle.data_space.specs.declared.regions.TheConstants.{SRAM_LEN}
 use Rattle.fleet_flight.specs.Shadows.{AreSized}
 use Rattle.node_runner.specs.Scenario.{ScenarioOf}
 use Rattle.state_text.specs.Text.{NodeOf, StateOf}

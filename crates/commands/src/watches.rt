@@ -161,7 +161,10 @@ pub fn read_watch_on<'w, S: Store, E: Sink>(
     };
     if is_later(&begun.1, from) {
         let past_cycle = StateCause::PastCycle;
-        return Err(tell(err, Trouble::Refused(Complaint::BadState(state, past_cycle))));
+        return Err(tell(
+            err,
+            Trouble::Refused(Complaint::BadState(state, past_cycle)),
+        ));
     }
     Ok(begun)
 }

@@ -1,4 +1,4 @@
-use Rattle.std.proofs.Common.{◌≡◌, subst, ap}
+use Rattle.std.proofs.Common.{◌≡◌, subst}
 use Rattle.std.specs.Prelude.{OnErr, OnOk}
 use Rattle.sim_io.specs.Outside.{TookFront, extended}
 use Rattle.state_text.specs.Text.{StateOf, state_text}

@@ -1,4 +1,4 @@
-use Rattle.std.proofs.Common.{◌<◌, sym, ap, ◌∙◌, arith}
+use Rattle.std.proofs.Common.{sym, ap, ◌∙◌, arith}
 use Rattle.fleet_flight.specs.Rows.{rows_upto}
 use Rattle.fleet_flight.proofs.Epoch.{first_rows}
 use Rattle.node_runner.specs.Scenario.{fleet_of}

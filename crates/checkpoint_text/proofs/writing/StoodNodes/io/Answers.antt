@@ -1,4 +1,4 @@
-use Rattle.std.proofs.Common.{◌≡◌, ◌∙◌, ap, subst}
+use Rattle.std.proofs.Common.{◌∙◌, ap}
 use Rattle.std.specs.Prelude.{List, slice_index}
 use Rattle.air_base.specs.NodeRun.{Timed}
 use Rattle.node_core.specs.declared.row.Row.{Row}

@@ -1,4 +1,4 @@
-use Rattle.std.proofs.Common.{◌≡◌, ◌<◌, false, [], sym, subst, ap, ◌∙◌, arith}
+use Rattle.std.proofs.Common.{◌<◌, false, sym, subst, ap, ◌∙◌, arith}
 use Rattle.std.proofs.lemmas.List.Elements.{All-nil}
 use Rattle.air_base.specs.declared.air.Send.{Send}
 use Rattle.world_core.specs.Chain.{LogFacts}
