@@ -8,7 +8,9 @@ mod reports;
 mod status;
 mod trouble;
 
-pub use files::{read_file, read_image, read_images, read_moves, read_places, read_scenario, read_source};
+pub use files::{
+    read_file, read_image, read_images, read_moves, read_places, read_scenario, read_source,
+};
 pub use reports::{report, tell};
 pub use status::Status;
 pub use trouble::{

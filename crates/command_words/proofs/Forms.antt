@@ -169,9 +169,9 @@ of_watch_on (word ∷ file ∷ from ∷ to ∷ places ∷ state ∷ []) asked h 
     let all = is_word (codes "watch") word && is_file file && is_file places in
     watch_form from to (word ∷ file ∷ from ∷ to ∷ places ∷ state ∷ []) (λ m n. WatchOn file m n places state) _
     (λ e m n s.
-        let q = and_parts all (is_file state) e in
-        let p = named word file places q.0 in
-        rw p.name (IsWatchOn file from to places state m n p.file_is p.places_is q.1 s)) _ refl asked h
+    let q = and_parts all (is_file state) e in
+    let p = named word file places q.0 in
+    rw p.name (IsWatchOn file from to places state m n p.file_is p.places_is q.1 s)) _ refl asked h
 of_watch_on (a ∷ b ∷ c ∷ d ∷ e ∷ f ∷ g ∷ more) asked h = absurd (cc)
 
 of_watch_sweep : (words : List (List ℕ)) (asked : Asked) → as_watch_sweep words ≡ Some asked → Form words asked
@@ -187,10 +187,10 @@ of_watch_sweep (word ∷ file ∷ from ∷ to ∷ places ∷ state ∷ moves ∷
     let all = is_word (codes "watch") word && is_file file && is_file places in
     watch_form from to (word ∷ file ∷ from ∷ to ∷ places ∷ state ∷ moves ∷ []) (λ m n. WatchSweep file m n places state moves) _
     (λ e m n s.
-        let r = and_parts (all && is_file state) (is_file moves) e in
-        let q = and_parts all (is_file state) r.0 in
-        let p = named word file places q.0 in
-        rw p.name (IsWatchSweep file from to places state moves m n p.file_is p.places_is q.1 r.1 s)) _ refl asked h
+    let r = and_parts (all && is_file state) (is_file moves) e in
+    let q = and_parts all (is_file state) r.0 in
+    let p = named word file places q.0 in
+    rw p.name (IsWatchSweep file from to places state moves m n p.file_is p.places_is q.1 r.1 s)) _ refl asked h
 of_watch_sweep (a ∷ b ∷ c ∷ d ∷ e ∷ f ∷ g ∷ i ∷ more) asked h = absurd (cc)
 
 sweep_form : (word file state moves : List ℕ) (b : Bool) → b ≡ (is_word (codes "sweep") word && is_file file && is_file state && is_file moves) → (asked : Asked)

@@ -51,14 +51,7 @@ fn is_quintuple(command: &str, file: &str, from: &str, to: &str, places: &str) -
 }
 
 // Whether the words behind the name of a command that takes five are accepted.
-fn is_sextuple(
-    command: &str,
-    file: &str,
-    from: &str,
-    to: &str,
-    places: &str,
-    state: &str,
-) -> bool
+fn is_sextuple(command: &str, file: &str, from: &str, to: &str, places: &str, state: &str) -> bool
     ensures { result ≡ is_some (asked_by (command.now ∷ file.now ∷ from.now ∷ to.now ∷ places.now ∷ state.now ∷ [])) }
 {
     (command == "watch")

@@ -1,5 +1,5 @@
 -- What is read for `watch`: places that are watched, and a state from which they are.
-use Rattle.std.proofs.Common.{◌≡◌, ℕ, ◌<◌, ◌≤◌, Bool, true, false, if◌then◌else◌, List, sym, ap, ◌∙◌, subst}
+use Rattle.std.proofs.Common.{◌≡◌, ℕ, nat_lt, Bool, true, false, if◌then◌else◌, List, sym, ap, ◌∙◌, subst}
 use Rattle.std.specs.List.{All}
 use Rattle.fleet_flight.specs.Shadows.{IsSpot}
 use Rattle.node_places.specs.declared.Place.{Place}
@@ -12,7 +12,6 @@ use Rattle.command_plans.specs.Plan.{Plan, Give, Refuse, BadState}
 use Rattle.command_plans.specs.Reading.{Files, Reached, Here}
 use Rattle.command_plans.specs.declared.trouble.StateCause.TheVariants as cause
 use Rattle.commands.specs.Plan.{watch_from_or}
-use Rattle.commands.proofs.Networks.{below, not_below}
 
 -- a place that was read can be watched
 spot_is : (s : Spot) → IsReadSpot s → IsSpot s
@@ -31,8 +30,8 @@ module _ (files : Files) (name : List ℕ) (from : ℕ) (it : (ScenarioOf × Lis
   abbrev Chosen : Bool → Plan ((ScenarioOf × List Place) × StateOf)
   Chosen early = if early then Refuse (BadState name cause.PastCycle) else Give it
 
-  pub watch_gives : it.1.cycle ≤ from → Reached files (watch_from_or name from it) (Give it)
-  watch_gives h = subst (λ (p : Plan ((ScenarioOf × List Place) × StateOf)). Reached files (watch_from_or name from it) p) (ap Chosen (not_below from it.1.cycle h)) (Here (watch_from_or name from it))
+  pub watch_gives : nat_lt from it.1.cycle ≡ false → Reached files (watch_from_or name from it) (Give it)
+  watch_gives h = subst (λ (p : Plan ((ScenarioOf × List Place) × StateOf)). Reached files (watch_from_or name from it) p) (ap Chosen h) (Here (watch_from_or name from it))
 
-  pub watch_too_early : from < it.1.cycle → Reached files (watch_from_or name from it) (Refuse (BadState name cause.PastCycle))
-  watch_too_early h = subst (λ (p : Plan ((ScenarioOf × List Place) × StateOf)). Reached files (watch_from_or name from it) p) (ap Chosen (below from it.1.cycle h)) (Here (watch_from_or name from it))
+  pub watch_too_early : nat_lt from it.1.cycle ≡ true → Reached files (watch_from_or name from it) (Refuse (BadState name cause.PastCycle))
+  watch_too_early h = subst (λ (p : Plan ((ScenarioOf × List Place) × StateOf)). Reached files (watch_from_or name from it) p) (ap Chosen h) (Here (watch_from_or name from it))

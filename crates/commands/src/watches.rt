@@ -1,5 +1,5 @@
 // What is read for `watch`.
-ghost use Rattle.std.specs.Prelude.{◌≡◌, ◌≤◌, IfErr, IfOk};
+ghost use Rattle.std.specs.Prelude.{◌≡◌, ◌≤◌, nat_lt, IfErr, IfOk};
 ghost use Rattle.checkpoint_text.specs.Onward.{CanResume};
 ghost use Rattle.command_plans.specs.Ends.{reads, stream};
 ghost use Rattle.command_plans.specs.Parts.{Stopped};
@@ -124,6 +124,13 @@ fn read_watch_begun<'w, S: Store, E: Sink>(
     }
 }
 
+// Whether a state is of a later cycle than this one.
+fn is_later(state: &StateParts, cycle: u64) -> bool
+    ensures { result ≡ nat_lt cycle state.now.cycle }
+{
+    cycle < state.cycle
+}
+
 /// What [`read_watch`] reads, and then the state of the network in the file `state`, from which it is to be watched; the
 /// cycle `from` is none before the state's. Where that is not to be had, `err` has the line that says why, and the answer
 /// is the status of the call.
@@ -152,7 +159,7 @@ pub fn read_watch_on<'w, S: Store, E: Sink>(
         Ok(begun) => begun,
         Err(status) => return Err(status),
     };
-    if from < begun.1.cycle {
+    if is_later(&begun.1, from) {
         let past_cycle = StateCause::PastCycle;
         return Err(tell(
             err,

@@ -18,12 +18,7 @@ const MOST_LINES: usize = 8_192;
 
 // The place of a line, whose rank is to be `least` or above it.
 #[tactic(auto, unfolding(crate::specs::Places::next_place))]
-fn next_place(
-    nodes: u8,
-    line: usize,
-    least: u32,
-    text: &[u8],
-) -> Result<(Place, u32), PlacesFault>
+fn next_place(nodes: u8, line: usize, least: u32, text: &[u8]) -> Result<(Place, u32), PlacesFault>
     ensures exact { Gives (λ x. x.0) result (next_place nodes line least (parts_of text.now)) }
     ensures known { IfOk result (λ x. IsKnown nodes x.0) }
     ensures next { IfOk result (λ x. x.1 ≡ rank x.0 + 1) }

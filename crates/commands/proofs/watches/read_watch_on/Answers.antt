@@ -1,4 +1,5 @@
-use Rattle.std.proofs.Common.{◌≡◌, ◌<◌, ◌≤◌, refl, arith}
+use Rattle.std.proofs.Common.{◌≡◌, ◌≤◌, nat_lt, false, refl, sym, ◌∙◌, arith}
+use Rattle.std.proofs.lemmas.Bool.Decides.{nat_tests}
 use Rattle.command_plans.specs.Ends.{Refused}
 use Rattle.command_plans.specs.Plan.{BadState}
 use Rattle.command_plans.specs.declared.trouble.StateCause.TheVariants.{PastCycle}
@@ -12,20 +13,21 @@ pub returns-in-Err-clause-err : goal.returns-in-Err-clause-err
 returns-in-Err-clause-err g c =
     stopped_behind _ (watch_begun_plan c.args.file.now c.args.to c.args.places.now c.args.state.now) (watch_from_or c.args.state.now c.args.from) _ _ _ _ _ c.in-Err.ensures.err
 
-pub returns-then-from-begun-clause-err : goal.returns-then-from-begun-clause-err
-returns-then-from-begun-clause-err g c =
+pub returns-then-is_later-clause-err : goal.returns-then-is_later-clause-err
+returns-then-is_later-clause-err g c =
     let it = c.in-Ok.begun in
     then_stopped _ (watch_begun_plan c.args.file.now c.args.to c.args.places.now c.args.state.now) (watch_from_or c.args.state.now c.args.from) ((it.0.0, it.0.1.places.items), it.1) _ _ _ _ c.in-Ok.ensures.ok
-    (Refused (BadState c.args.state.now PastCycle)) _ _ (refl, watch_too_early _ c.args.state.now c.args.from ((it.0.0, it.0.1.places.items), it.1) c.if-from-begun.true) c.tell.ensures
+    (Refused (BadState c.args.state.now PastCycle)) _ _ (refl, watch_too_early _ c.args.state.now c.args.from ((it.0.0, it.0.1.places.items), it.1) (sym c.is_later.ensures ∙ c.if-is_later.true)) c.tell.ensures
 
 pub returns-clause-ok : goal.returns-clause-ok
 returns-clause-ok g c =
     let it = c.in-Ok.begun in
     then_got _ (watch_begun_plan c.args.file.now c.args.to c.args.places.now c.args.state.now) (watch_from_or c.args.state.now c.args.from) ((it.0.0, it.0.1.places.items), it.1) _ _ _ _ c.in-Ok.ensures.ok
-    ((it.0.0, it.0.1.places.items), it.1) ((it.0.0, it.0.1.places.items), it.1) refl (watch_gives _ c.args.state.now c.args.from ((it.0.0, it.0.1.places.items), it.1) c.if-from-begun.false)
+    ((it.0.0, it.0.1.places.items), it.1) ((it.0.0, it.0.1.places.items), it.1) refl (watch_gives _ c.args.state.now c.args.from ((it.0.0, it.0.1.places.items), it.1) (sym c.is_later.ensures ∙ c.if-is_later.false))
 
 pub returns-clause-fit : goal.returns-clause-fit
 returns-clause-fit g c =
     let from : c.in-Ok.begun.0.1.from ≡ c.args.from = c.in-Ok.ensures.span.0 in
-    let late : c.in-Ok.begun.1.cycle ≤ c.args.from = c.if-from-begun.false in
-    record { fit = c.in-Ok.ensures.fit; begun = omega (arith, from, late); watch = c.in-Ok.ensures.watch }
+    let late : nat_lt c.args.from c.in-Ok.begun.1.cycle ≡ false = sym c.is_later.ensures ∙ c.if-is_later.false in
+    let begun : c.in-Ok.begun.1.cycle ≤ c.args.from = grind (arith, nat_tests, late) in
+    record { fit = c.in-Ok.ensures.fit; begun = omega (arith, from, begun); watch = c.in-Ok.ensures.watch }
