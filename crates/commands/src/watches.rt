@@ -154,7 +154,10 @@ pub fn read_watch_on<'w, S: Store, E: Sink>(
     };
     if from < begun.1.cycle {
         let past_cycle = StateCause::PastCycle;
-        return Err(tell(err, Trouble::Refused(Complaint::BadState(state, past_cycle))));
+        return Err(tell(
+            err,
+            Trouble::Refused(Complaint::BadState(state, past_cycle)),
+        ));
     }
     Ok(begun)
 }
