@@ -1,9 +1,9 @@
 #!/usr/bin/env bash
 # Speed that no proof tells: bench/probes.sh [PROGRAM] counts host instructions for one AVR instruction of small
-# programs, each of which does one thing (the table below), and compares them with the most that each may take. It does
-# the same for two networks, by threads beside one thread, which shows a wait that burns processors. It proves nothing:
-# PROGRAM is one that was built (without it, that of ./avrora, which proves it first). It takes under three minutes, and
-# says that it is skipped if valgrind is missing. Exit status: 0 all take no more, 1 one takes more or fails.
+# programs, each of which does one thing (the table below), and compares them with the most that each may take. It
+# proves nothing: PROGRAM is one that was built (without it, that of ./avrora, which proves it first). It takes under
+# three minutes, and says that it is skipped if valgrind is missing. Exit status: 0 all take no more, 1 one takes more
+# or fails.
 #
 # Counts hardly vary from run to run or from machine to machine. The most is a tenth above what was counted last; where a change
 # makes a count fall, lower its line.
@@ -97,22 +97,10 @@ count() {
     executed=$(awk 'END { print $(NF - 1) }' "$work/rows")
 }
 
-# HOST of a run with these words, which read files of the folder of the run.
-host_of() {
-    (cd "$work" && valgrind --tool=callgrind --callgrind-out-file=/dev/null "$program" "$@" 2>&1 >/dev/null | awk '/Collected/ { print $4 }')
-}
-
 # HOST of `monitor` over all of so many cycles of the last probe's image.
 monitor() {
     printf 'cycles = %d\nnode = [{ image = "probe.hex" }]\n' "$1" >"$work/probe.toml"
-    host_of monitor probe.toml 0 "$1"
-}
-
-# by_threads NAME MOST: how many times as many HOST the network takes by threads as on one.
-by_threads() {
-    awk -v n="$1" -v m="$2" -v p="$(host_of run --plain network.toml)" -v t="$(host_of run network.toml)" 'BEGIN {
-        printf "%s, by threads: %.3f times, at most %s%s\n", n, t / p, m, (t > m * p) ? ": MORE" : ""
-        exit (t > m * p) }'
+    (cd "$work" && valgrind --tool=callgrind --callgrind-out-file=/dev/null "$program" monitor probe.toml 0 "$1" 2>&1 >/dev/null | awk '/Collected/ { print $4 }')
 }
 
 status=0
@@ -139,10 +127,4 @@ h=$(monitor 20000)
 awk -v m=281 -v h="$(($(monitor 100000) - h))" 'BEGIN {
     printf "monitor, a cycle: %.2f, at most %s%s\n", h / 80000, m, (h > m * 80000) ? ": MORE" : ""
     exit (h > m * 80000) }' || status=1
-
-cp "$top/bench/ring.hex" "$top/bench/sleep.hex" "$work"
-network 8 ring 600000 "latency = 3072" "byte_time = 3072" >"$work/network.toml"
-by_threads "ring of 8" 1.10 || status=1
-network 64 sleep 6000000 "latency = 3072" "byte_time = 3072" >"$work/network.toml"
-by_threads "64 nodes asleep" 1.15 || status=1
 exit $status

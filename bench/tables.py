@@ -2,7 +2,7 @@
 """Writes the tables of docs/SPEED.md from what the scripts beside it printed.
 
     bench/run.sh >run.out; bench/paths.py >paths.out; bench/networks.sh >networks.out; bench/threads.sh >threads0.out
-    bench/threads.sh PROGRAM 4 >threads4.out
+    bench/threads.sh PROGRAM 2 >threads2.out; bench/threads.sh PROGRAM 4 >threads4.out
     bench/tables.py run.out paths.out networks.out threads*.out
 
 Each table stands between `<!-- table: bench/SCRIPT -->` and `<!-- end -->`; one of whose script no output is given stays as it
@@ -20,10 +20,7 @@ HOST = re.compile(r"(\w+): ([\d.]+) host instructions an instruction")
 NETWORK = re.compile(r"(.+): \d+ cycles of nodes and (\d+) rows in (under )?([\d.]+) s: ([\d.]+) million cycles and ([\d.]+) .*, (\d+) KiB at most")
 BUSY = re.compile(r"\d+ processors, (\d+) busy programs beside, load .*")
 PATH = re.compile(r"([\d,]+) instructions: of one kind ([\d.]+) ns each, drawn ([\d.]+) ns(?:, simavr ([\d.]+) ns)?")
-THREADS = re.compile(
-    r"(.+): one thread ([\d.]+) s, a thread a node ([\d.]+) s, ([\d.]+) times as fast, yardstick [\d.]+, part [\d.]+, "
-    r"processors ([\d.]+) s and ([\d.]+) s, .* rows"
-)
+THREADS = re.compile(r"(.+): one thread ([\d.]+) s, a thread a node ([\d.]+) s, ([\d.]+) times as fast, yardstick [\d.]+, part ([\d.]+), .* rows")
 
 
 def span(values, digits, unit=""):
@@ -60,10 +57,9 @@ def path_cells(row):
 
 
 def threads_cells(row):
-    """On one thread, by threads, how many times as fast, how many times the processor time; both beside four busy programs, where
-    measured."""
-    alone = [span(row["plain"], 2, " s"), span(row["threads"], 2, " s"), span(row["gain"], 1), span(row["cost"], 1)]
-    return alone + [span(row[it], 1) if it in row else "" for it in ("gain beside 4", "cost beside 4")]
+    """On one thread, by threads, how many times as fast, the part; the same beside two and four busy programs, where measured."""
+    alone = [span(row["plain"], 2, " s"), span(row["threads"], 2, " s"), span(row["gain"], 1), span(row["part"], 2)]
+    return alone + [span(row[busy], 1) for busy in ("gain beside 2", "gain beside 4") if busy in row]
 
 
 # The script of a table, how its cells are made, and how many cells before them say what the row is.
@@ -95,13 +91,10 @@ def read(paths):
         elif it := BUSY.fullmatch(line):
             busy = it[1]
         elif it := THREADS.fullmatch(line):
-            cost = float(it[6]) / float(it[5])
             if busy != "0":
                 found["bench/threads.sh"].add(it[1], f"gain beside {busy}", it[4])
-                found["bench/threads.sh"].add(it[1], f"cost beside {busy}", cost)
                 continue
-            found["bench/threads.sh"].add(it[1], "cost", cost)
-            for name, place in (("plain", 2), ("threads", 3), ("gain", 4)):
+            for name, place in (("plain", 2), ("threads", 3), ("gain", 4), ("part", 5)):
                 found["bench/threads.sh"].add(it[1], name, it[place])
     return found
 

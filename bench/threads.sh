@@ -3,10 +3,8 @@
 # programs beside it that only reckon. Each network is run seven times, in turns, with `run --plain`, with `run`, and as
 # a yardstick as many times with `run --plain` at once as there are processors. It prints the medians of the time on the
 # wall, and how many times as fast the run by threads is. It prints how many times as much the yardstick gets done in a
-# time, and what part of that the threads get. Then come the medians of the processor time of `run --plain` and of
-# `run`. With strace it counts, for one run by threads, how often a node slept until another was far enough (it sleeps
-# for a limited time), how often a thread slept at the lock (that has no limit), and the threads begun. It prints the
-# number of samples. It compares the traces.
+# time, and what part of that the threads get. With strace it counts the calls by which threads wait and wake, and the
+# samples. It compares the traces.
 . "$(dirname "$0")/help.sh"
 set -eu
 . "$(dirname "$0")/program.sh"
@@ -20,11 +18,13 @@ trap 'kill $(jobs -p) 2>/dev/null; rm -rf "$work"' EXIT
 # since BEGAN: the microseconds since then.
 since() { echo $((($(date +%s%N) - $1) / 1000)); }
 
-# timed OUT WORD ..: the seconds on the wall and of processors that a run with these words takes, in a line.
+# timed OUT WORD ..: the microseconds on the wall of a run with these words.
 timed() {
-    local out=$1 TIMEFORMAT='%R %U %S'
+    local out=$1 began
     shift
-    { time "$program" "$@" >"$out" 2>&3; } 3>&2 2>&1 | awk '{ print $1, $2 + $3 }'
+    began=$(date +%s%N)
+    "$program" "$@" >"$out"
+    since "$began"
 }
 
 # at_once FILE: the microseconds on the wall of as many plain runs as there are processors, side by side.
@@ -43,33 +43,27 @@ at_once() {
 # median: of the numbers in the input, a line each.
 median() { sort -n | sed -n "$((turns / 2 + 1))p"; }
 
-# calls FILE: in a run by threads the sleeps until a node is far enough, those at the lock, and the threads begun, where strace is
-# there. The lock's word shows 2 while somebody sleeps there.
+# calls FILE: the calls of the system that wait or wake in a run by threads, where strace is there.
 calls() {
-    command -v strace >/dev/null || { echo - - -; return; }
-    strace -f -e trace=futex,clone,clone3 -o calls.txt "$program" run "$1" >/dev/null 2>&1 || { echo - - -; return; }
-    awk '/FUTEX_WAIT_PRIVATE, [0-9]+, \{tv_sec=0,/ { waits++ }
-        /FUTEX_WAIT_PRIVATE, 2, (NULL|\{tv_sec=[1-9])/ { sleeps++ }
-        /^[0-9]+ +clone3?\(/ { begun++ }
-        END { print waits + 0, sleeps + 0, begun + 0 }' calls.txt
+    command -v strace >/dev/null || { echo -; return; }
+    strace -f -c -e trace=futex -o calls.txt "$program" run "$1" >/dev/null 2>&1 || { echo -; return; }
+    awk '$NF == "futex" { n = $4 } END { print n + 0 }' calls.txt
 }
 
 # report NAME FILE
 report() {
-    : >plain.s; : >threads.s; : >side.us
-    local k waits sleeps begun
+    : >plain.us; : >threads.us; : >side.us
+    local k
     for ((k = 0; k < turns; k++)); do
-        timed plain.out run --plain "$2" >>plain.s
-        timed threads.out run "$2" >>threads.s
+        timed plain.out run --plain "$2" >>plain.us
+        timed threads.out run "$2" >>threads.us
         at_once "$2" >>side.us
         cmp plain.out threads.out
     done
-    read -r waits sleeps begun < <(calls "$2")
-    awk -v n="$1" -v p="$(cut -d' ' -f1 plain.s | median)" -v t="$(cut -d' ' -f1 threads.s | median)" -v s="$(median <side.us)" -v m="$processors" \
-        -v pc="$(cut -d' ' -f2 plain.s | median)" -v tc="$(cut -d' ' -f2 threads.s | median)" -v r="$(wc -l <plain.out)" \
-        -v w="$waits" -v l="$sleeps" -v b="$begun" -v a="$(grep -c ' heard ' plain.out)" 'BEGIN {
-        printf "%s: one thread %.3f s, a thread a node %.3f s, %.2f times as fast, yardstick %.2f, part %.2f, ", n, p, t, p / t, m * p * 1e6 / s, s / (m * t * 1e6)
-        printf "processors %.3f s and %.3f s, %s waits for a node, %s sleeps at the lock, %s threads begun, %d samples, %d rows\n", pc, tc, w, l, b, a, r }'
+    awk -v n="$1" -v p="$(median <plain.us)" -v t="$(median <threads.us)" -v s="$(median <side.us)" -v m="$processors" -v r="$(wc -l <plain.out)" \
+        -v c="$(calls "$2")" -v a="$(grep -c ' heard ' plain.out)" 'BEGIN {
+        printf "%s: one thread %.3f s, a thread a node %.3f s, %.2f times as fast, yardstick %.2f, part %.2f, %s calls, %d samples, %d rows\n",
+            n, p / 1e6, t / 1e6, p / t, m * p / s, s / (m * t), c, a, r }'
 }
 
 echo "$processors processors, ${2:-0} busy programs beside, load $(cut -d' ' -f1 /proc/loadavg)"

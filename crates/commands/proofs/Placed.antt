@@ -1,5 +1,5 @@
 -- What is read for `watch`: places that are watched, and a state from which they are.
-use Rattle.std.proofs.Common.{◌≡◌, ℕ, ◌<◌, ◌≤◌, Bool, true, false, if◌then◌else◌, List, ap, subst}
+use Rattle.std.proofs.Common.{◌≡◌, ℕ, ◌<◌, ◌≤◌, Bool, true, false, if◌then◌else◌, List, sym, ap, ◌∙◌, subst}
 use Rattle.std.specs.List.{All}
 use Rattle.fleet_flight.specs.Shadows.{IsSpot}
 use Rattle.node_places.specs.declared.Place.{Place}
@@ -12,7 +12,6 @@ use Rattle.command_plans.specs.Plan.{Plan, Give, Refuse, BadState}
 use Rattle.command_plans.specs.Reading.{Files, Reached, Here}
 use Rattle.command_plans.specs.declared.trouble.StateCause.TheVariants as cause
 use Rattle.commands.specs.Plan.{watch_from_or}
-use Rattle.commands.specs.Texts.{watch_on_text, watch_sweep_text, watch_text}
 use Rattle.commands.proofs.Networks.{below, not_below}
 
 -- a place that was read can be watched
@@ -22,6 +21,10 @@ spot_is (spot.At at) h = tt
 
 pub spots_are : (nodes : ℕ) (places : List Place) → All (IsKnown nodes) places → All (λ p. IsSpot p.spot) places
 spots_are nodes places known k d h = spot_is _ (known k d h).spot
+
+-- the span that is watched is the one that is asked for
+pub same_span : {A : Type 0} (text : ℕ → ℕ → A) (a b from to : ℕ) → (a ≡ from) × (b ≡ to) → text from to ≡ text a b
+same_span text a b from to h = ap (λ x. text x to) (sym h.0) ∙ ap (text a) (sym h.1)
 
 -- whether a run from a state is watched from a cycle on
 module _ (files : Files) (name : List ℕ) (from : ℕ) (it : (ScenarioOf × List Place) × StateOf) where

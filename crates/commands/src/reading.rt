@@ -220,8 +220,9 @@ fn read_job<'w, S: Store, E: Sink>(
             places,
             state,
         } => {
-            let ((network, watch), state) =
-                read_watch_on(alloc, file, from, to, places, state, store, err)?;
+            let ((network, watch), state) = read_watch_on(
+                alloc, file, from, to, places, state, store, err,
+            )?;
             Ok(Job::WatchOn(network, state, watch))
         }
         Command::WatchSweep {
@@ -232,8 +233,9 @@ fn read_job<'w, S: Store, E: Sink>(
             state,
             moves,
         } => {
-            let (((network, watch), state), moves) =
-                read_watch_sweep(alloc, file, from, to, places, state, moves, store, err)?;
+            let (((network, watch), state), moves) = read_watch_sweep(
+                alloc, file, from, to, places, state, moves, store, err,
+            )?;
             Ok(Job::Sweep(network, state, moves, Tail::Watch(watch)))
         }
     }

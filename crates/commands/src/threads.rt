@@ -15,8 +15,8 @@ use std::alloc::Global;
 use std::sync::Wait;
 use std::thread::Threads;
 
-// Runs a network, each node on a thread of its own, and writes its trace: the rows that each call gives before the next
-// one is made.
+// Runs a network, each node on a thread of its own, and writes its trace: the rows of each epoch before the next one is
+// run.
 fn write_trace<'n, R: Threads + Wait + Sync, O: Sink, G: Gate + Sync>(
     rt: &R,
     alloc: Global,

@@ -74,7 +74,7 @@ pub fn read_watch<'w, S: Store, E: Sink>(
         (reads (S.faults store.old) (S.failed store.old)) (reads (S.faults store.new) (S.failed store.new))
         (stream (E.taken err.old) (E.faults err.old)) (stream (E.taken err.new) (E.faults err.new)) (it.0, it.1.places.items)) }
     ensures fit { IfOk result (λ it. IsWatch it.0 it.1) }
-    ensures span { IfOk result (λ it. (it.1.from, it.1.to) ≡ (from, to)) }
+    ensures span { IfOk result (λ it. (it.1.from ≡ from) × (it.1.to ≡ to)) }
     ensures err { IfErr result (Stopped (S.held store.old) (watch_plan file.entry.now to places.entry.now)
         (reads (S.faults store.old) (S.failed store.old)) (reads (S.faults store.new) (S.failed store.new))
         (stream (E.taken err.old) (E.faults err.old)) (stream (E.taken err.new) (E.faults err.new))) }
@@ -109,7 +109,7 @@ fn read_watch_begun<'w, S: Store, E: Sink>(
         (stream (E.taken err.old) (E.faults err.old)) (stream (E.taken err.new) (E.faults err.new)) ((it.0.0, it.0.1.places.items), it.1)) }
     ensures fit { IfOk result (λ it. CanResume it.0.0 it.1) }
     ensures watch { IfOk result (λ it. IsWatch it.0.0 it.0.1) }
-    ensures span { IfOk result (λ it. (it.0.1.from, it.0.1.to) ≡ (from, to)) }
+    ensures span { IfOk result (λ it. (it.0.1.from ≡ from) × (it.0.1.to ≡ to)) }
     ensures err { IfErr result (Stopped (S.held store.old) (watch_begun_plan file.entry.now to places.entry.now state.entry.now)
         (reads (S.faults store.old) (S.failed store.old)) (reads (S.faults store.new) (S.failed store.new))
         (stream (E.taken err.old) (E.faults err.old)) (stream (E.taken err.new) (E.faults err.new))) }
@@ -143,7 +143,7 @@ pub fn read_watch_on<'w, S: Store, E: Sink>(
         (reads (S.faults store.old) (S.failed store.old)) (reads (S.faults store.new) (S.failed store.new))
         (stream (E.taken err.old) (E.faults err.old)) (stream (E.taken err.new) (E.faults err.new)) ((it.0.0, it.0.1.places.items), it.1)) }
     ensures fit { IfOk result (λ it. IsWatchOn it.0.0 it.1 it.0.1) }
-    ensures span { IfOk result (λ it. (it.0.1.from, it.0.1.to) ≡ (from, to)) }
+    ensures span { IfOk result (λ it. (it.0.1.from ≡ from) × (it.0.1.to ≡ to)) }
     ensures err { IfErr result (Stopped (S.held store.old) (watch_on_plan file.entry.now from to places.entry.now state.entry.now)
         (reads (S.faults store.old) (S.failed store.old)) (reads (S.faults store.new) (S.failed store.new))
         (stream (E.taken err.old) (E.faults err.old)) (stream (E.taken err.new) (E.faults err.new))) }
@@ -154,7 +154,10 @@ pub fn read_watch_on<'w, S: Store, E: Sink>(
     };
     if from < begun.1.cycle {
         let past_cycle = StateCause::PastCycle;
-        return Err(tell(err, Trouble::Refused(Complaint::BadState(state, past_cycle))));
+        return Err(tell(
+            err,
+            Trouble::Refused(Complaint::BadState(state, past_cycle)),
+        ));
     }
     Ok(begun)
 }
@@ -178,7 +181,7 @@ pub fn read_watch_sweep<'w, S: Store, E: Sink>(
         (reads (S.faults store.old) (S.failed store.old)) (reads (S.faults store.new) (S.failed store.new))
         (stream (E.taken err.old) (E.faults err.old)) (stream (E.taken err.new) (E.faults err.new)) (((it.0.0.0, it.0.0.1.places.items), it.0.1), it.1.items)) }
     ensures fit { IfOk result (λ it. IsTailed it.0.0.0 it.0.1 it.1.items (tail.Watch it.0.0.1)) }
-    ensures span { IfOk result (λ it. (it.0.0.1.from, it.0.0.1.to) ≡ (from, to)) }
+    ensures span { IfOk result (λ it. (it.0.0.1.from ≡ from) × (it.0.0.1.to ≡ to)) }
     ensures err { IfErr result (Stopped (S.held store.old) (watch_sweep_plan file.entry.now from to places.entry.now state.entry.now moves.entry.now)
         (reads (S.faults store.old) (S.failed store.old)) (reads (S.faults store.new) (S.failed store.new))
         (stream (E.taken err.old) (E.faults err.old)) (stream (E.taken err.new) (E.faults err.new))) }

@@ -30,3 +30,5 @@ pub mod Sizes
 pub mod Shadowed
 -- What is seen in spans that are joined, and a byte behind the changes that are seen of it.
 pub mod Seen
+-- Places at which nothing is seen in a cycle.
+pub mod Quiet

@@ -42,6 +42,14 @@ seen_first n ps xs begun t u = each_below n (λ j. seen_from (slice_index_or ps 
 abbrev pub seen_of_all : List Place → List ℕ → Option ℕ → ℕ → NodeState → List Change
 seen_of_all ps xs begun t u = seen_first (length ps) ps xs begun t u
 
+-- in a cycle that ends in state u nothing is seen at a place of which this was looked at before it
+pub record IsQuietAt (p : Place) (was : ℕ) (begun : Option ℕ) (u : NodeState) : Type 0 where
+  pub none : (t : ℕ) → seen_from p.spot t p.node was begun u ≡ []
+  pub byte : was ≡ byte_of p.spot u
+
+abbrev pub AreQuiet : ℕ → List Place → List ℕ → Option ℕ → NodeState → Type 0
+AreQuiet n ps xs begun u = (j : ℕ) → j < n → IsQuietAt (slice_index_or ps j no_place) (slice_index xs j) begun u
+
 -- what node k hears in each cycle, by a record of sends
 abbrev pub ear_of : Topology → List Send → ℕ → ℕ → Heard
 ear_of t xs k c = heard t xs k c

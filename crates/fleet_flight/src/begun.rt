@@ -28,12 +28,7 @@ fn places_of(alloc: Global, number: u8, places: &[Place]) -> Result<Vec<Place>, 
 }
 
 // The shadow of a node at these places.
-fn shadow_of(
-    alloc: Global,
-    node: &Node,
-    number: u8,
-    places: Vec<Place>,
-) -> Result<Shadow, NoMemory>
+fn shadow_of(alloc: Global, node: &Node, number: u8, places: Vec<Place>) -> Result<Shadow, NoMemory>
     requires still { IsStill node.now }
     requires spots { All (λ p. IsSpot p.spot) places.items }
     ensures shadow { IfOk result (λ v. IsShadow v) }
@@ -71,11 +66,7 @@ fn put_shadow(
 }
 
 /// The shadows of those of these nodes that have places among these, in order of number.
-pub fn shadows_of(
-    alloc: Global,
-    nodes: &[Node],
-    places: &[Place],
-) -> Result<Vec<Shadow>, NoMemory>
+pub fn shadows_of(alloc: Global, nodes: &[Node], places: &[Place]) -> Result<Vec<Shadow>, NoMemory>
     requires still { All IsStill nodes.now }
     requires few { length nodes.now ≤ 64 }
     requires spots { All (λ p. IsSpot p.spot) places.now }

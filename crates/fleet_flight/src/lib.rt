@@ -6,8 +6,8 @@
 mod begins;
 mod begun;
 mod flight;
-mod law;
 mod latency;
+mod law;
 mod order;
 mod places;
 mod record;

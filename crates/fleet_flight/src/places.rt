@@ -2,7 +2,7 @@
 ghost use Rattle.std.specs.Prelude.{◌≡◌, ◌≤◌, ◌++◌, length, true, IfOk, OnOk};
 ghost use Rattle.std.specs.List.{All};
 ghost use Rattle.data_space.specs.declared.regions.TheConstants.{SRAM_LAST};
-ghost use Rattle.fleet_flight.specs.Shadows.{AreBytes, IsSpot, seen_of_all};
+ghost use Rattle.fleet_flight.specs.Shadows.{AreBytes, AreQuiet, IsQuietAt, IsSpot, seen_of_all};
 ghost use Rattle.fleet_flight.specs.Watched.{byte_at, byte_of, seen_from, seen_if};
 
 use avr_base::NoMemory;
@@ -82,6 +82,32 @@ fn compare_one(
     }
 }
 
+// Whether nothing is seen at a place in a cycle, which brought the node to where it is; before it the byte was `was`, and
+// an instruction began at `begun`.
+fn is_quiet(place: Place, was: u8, begun: Option<u16>, node: &Node) -> bool
+    requires { IsSpot place.spot }
+    ensures { result ≡ true → IsQuietAt place was begun node.now.state }
+{
+    match place.spot {
+        Spot::Byte { address } => byte_at(node, address) == was,
+        Spot::At { address } => begun != Some(address) && was == 0,
+    }
+}
+
+// Whether nothing is seen at any of these places.
+fn are_quiet(places: &[Place], last: &[u8], begun: Option<u16>, node: &Node) -> bool
+    requires count { length last.now ≡ length places.now }
+    requires spots { All (λ p. IsSpot p.spot) places.now }
+    ensures { result ≡ true → AreQuiet (length places.now) places.now last.now begun node.now.state }
+{
+    for k in 0..places.len() {
+        if !is_quiet(places[k], last[k], begun, node) {
+            return false;
+        }
+    }
+    true
+}
+
 /// Puts behind the others what is seen in a cycle, which brought the node to where it is, in the order of the places.
 /// `last` is what was looked at before it, and is then what is looked at now.
 pub fn compare(
@@ -97,6 +123,10 @@ pub fn compare(
     ensures seen { OnOk result (changes.new.items ≡ changes.old.items ++ seen_of_all places.now last.old.items begun cycle node.now.state) }
     ensures last { OnOk result (AreBytes places.now node.now.state last.new.items) }
 {
+    // Most cycles show nothing.
+    if are_quiet(places, last, begun, node) {
+        return Ok(());
+    }
     for k in 0..places.len() {
         last[k] = compare_one(places[k], last[k], begun, cycle, node, changes)?;
     }

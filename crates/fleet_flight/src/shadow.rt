@@ -98,6 +98,16 @@ fn one_cycle(node: &mut Node, number: u8, topo: &Topo, log: &SendLog) -> Result<
     }
 }
 
+// Its rows are dropped. Where it has none, the room for them is kept.
+fn forget_rows(node: &mut Node)
+    requires { node.old.asking ≡ false }
+    ensures { node.new ≡ record node.old { rows = [] } }
+{
+    if !node.rows().is_empty() {
+        let _ = node.take_rows();
+    }
+}
+
 // Its next cycle, if it is not stopped, and what is seen in it.
 fn step(
     shadow: &mut Shadow,
@@ -116,7 +126,7 @@ fn step(
     let cycle = shadow.node.cycle();
     let begun = shadow.node.begun();
     one_cycle(&mut shadow.node, shadow.number, topo, log)?;
-    let _ = shadow.node.take_rows();
+    forget_rows(&mut shadow.node);
     compare(
         &shadow.places,
         &mut shadow.last,

@@ -28,7 +28,7 @@ use Rattle.node_runner.specs.Scenario.{ScenarioOf, fleet_of}
 use Rattle.node_runner.specs.Place.{Place, is_live, state_at, noted_of, sends_passed}
 use Rattle.node_runner.specs.Event.{IsEvent}
 use Rattle.node_runner.proofs.Sound.{sound, scenario_lawful}
-use Rattle.neighbour_sync.specs.Record.{longest_span}
+use Rattle.world_core.specs.Kept.{epoch}
 use Rattle.node_runner.specs.Flight.{IsAt, Advanced}
 use Rattle.node_runner.proofs.Advance.{adv_answer, adv_turn, adv_ask, adv_ended, adv_sent, sent_early, noted_plain}
 use Rattle.node_runner.proofs.Places.{live_taken, still_over, home}
@@ -282,7 +282,7 @@ module _ (t : TableId) (w : WorldFacts) (sc : ScenarioOf) (floor end : ℕ) (m :
             (subst (λ (z : ScenarioOf). IsSendNumber (facts_of (fleet_of z)) k x) u.place.at.scenario
             (subst (λ (i : ℕ). IsSendNumber (facts_of (fleet_of m.runner.scenario)) i x) (sym (e ∙ count)) ev.5))
 
-        pub early_send : x.cycle < floor + longest_span
+        pub early_send : x.cycle < floor + epoch
         early_send = let a = sent_early end q m.runner [] lim own live 1024 some calm q_is x mid ev in let b = u.epoch.span in omega arith
 
         pub sent : (n : Member) (k : ℕ) → k ≡ noted_of mid → n.runner ≡ record mid { unnoted = false } → noted_of n.runner ≡ noted_of mid + 1 → k < n.air.told → n.air ≡ record m.air { told = n.air.told } → n.gap ≡ m.gap

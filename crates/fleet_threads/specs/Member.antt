@@ -1,4 +1,4 @@
--- A node in a span. Own to this simulator.
+-- A node in an epoch. Own to this simulator.
 use Rattle.std.specs.Prelude.{◌≡◌, ℕ, ◌+◌, ◌≤◌, ◌<◌, false, if◌then◌else◌, List, map, length, slice_index_or}
 use Rattle.std.specs.List.{All, sum_by}
 use Rattle.atomic_table.specs.Seated.{TableId}
@@ -7,17 +7,16 @@ use Rattle.world_core.specs.Sends.{sends_below}
 use Rattle.world_core.specs.Order.{facts_of}
 use Rattle.node_runner.specs.Scenario.{ScenarioOf, IsScenario, fleet_of}
 use Rattle.node_runner.specs.Place.{Place, is_live, sends_passed}
-use Rattle.neighbour_sync.specs.Record.{longest_span}
+use Rattle.world_core.specs.Kept.{epoch}
 use Rattle.node_runner.specs.Flight.{IsAt, IsTaken}
 use Rattle.fleet_threads.specs.declared.member.Member.{Member}
 
--- a span of the scenario, of one epoch or some, from the cycle `floor` to the cycle `end`, in the world of its sends and
--- samples
+-- an epoch of the scenario, from the cycle `floor` to the cycle `end`, in the world of its sends and samples
 pub record IsEpoch (w : WorldFacts) (sc : ScenarioOf) (floor end : ℕ) : Type 0 where
   pub sound : IsScenario sc
   pub world : w ≡ facts_of (fleet_of sc)
   pub rises : floor ≤ end
-  pub span : end ≤ floor + longest_span
+  pub span : end ≤ floor + epoch
   pub within : end ≤ sc.topo.limit
 
 -- a runner stands at a place of the single global order, not past the end, and its rows were taken at the floor

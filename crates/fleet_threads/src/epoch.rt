@@ -1,12 +1,11 @@
-// What is the same for all nodes of a span.
+// What is the same for all nodes of an epoch.
 use node_runner::Scenario;
 use std::sync::atomic::AtomicU64;
 
 /// The number of no node: none was refused yet.
 pub const NOBODY: u64 = u64::MAX;
 
-/// A span of a scenario, of one epoch or some: what all its nodes share, but for the air. Cycles go from 0 to the
-/// scenario's limit.
+/// An epoch of a scenario: what all its nodes share, but for the air. Cycles go from 0 to the scenario's limit.
 #[derive(Drop)]
 pub struct Epoch<'s, R, G> {
     /// What begins threads, and waits.

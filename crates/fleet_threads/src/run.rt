@@ -1,11 +1,12 @@
-// A run in spans of epochs, and the whole run.
-ghost use Rattle.std.specs.Prelude.{◌≡◌, ◌<◌, ◌≤◌, ◌+◌, ◌++◌, ◌==◌, map, false, [], IfOk, OnOk};
+// A run in epochs, and the whole run.
+ghost use Rattle.std.specs.Prelude.{◌≡◌, ◌<◌, ◌≤◌, ◌+◌, ◌++◌, ◌==◌, min, map, false, [], IfOk, OnOk};
 ghost use Rattle.std.specs.List.{All};
 ghost use Rattle.world_core.specs.Order.{facts_of, run_rows};
 ghost use Rattle.node_runner.specs.Scenario.{fleet_of, IsScenario};
+ghost use Rattle.world_core.specs.Kept.{epoch};
 ghost use Rattle.fleet_flight.specs.Rows.{rows_upto};
 ghost use Rattle.fleet_threads.specs.Member.{IsEpoch};
-ghost use Rattle.fleet_threads.specs.Run.{IsTied, IsFirst, IsSpan, air_of};
+ghost use Rattle.fleet_threads.specs.Run.{IsTied, IsFirst, air_of};
 
 use crate::ending::{any_halted, epoch_rows};
 use crate::epoch::{Epoch, NOBODY};
@@ -13,7 +14,7 @@ use crate::gate::Gate;
 use crate::member::Member;
 use crate::parts::Parts;
 use avr_base::NoMemory;
-use neighbour_sync::{Air, LONGEST_SPAN, NodeAir, cut_when_passed, open_air};
+use neighbour_sync::{Air, NodeAir, cut_when_passed, open_air};
 use node_core::Row;
 use node_runner::{Runner, Scenario};
 use std::alloc::Global;
@@ -23,30 +24,6 @@ use std::sync::Wait;
 use std::sync::atomic::AtomicU64;
 use std::thread::Threads;
 use world_core::EPOCH;
-
-// How many epochs a span has at most.
-const LONGEST: u64 = LONGEST_SPAN / EPOCH;
-
-// A span that gave no more rows than this is followed by one twice as long.
-const FEW_ROWS: usize = 4_096;
-
-// A span that gave more rows than this is followed by an epoch.
-const MANY_ROWS: usize = 16_384;
-
-// How many epochs the next span has, after one of so many that gave so many rows. To begin all threads and to join them
-// takes as long for one epoch as for many, and the rows of a span are held until it ends.
-fn next_span(span: u64, rows: usize) -> u64
-    requires { IsSpan span }
-    ensures { IsSpan result }
-{
-    if rows <= FEW_ROWS {
-        (span * 2).min(LONGEST)
-    } else if rows > MANY_ROWS {
-        1
-    } else {
-        span
-    }
-}
 
 // A node at reset.
 fn first_member(alloc: Global, scenario: &Scenario, air: NodeAir) -> Result<Member, NoMemory>
@@ -64,7 +41,7 @@ fn first_member(alloc: Global, scenario: &Scenario, air: NodeAir) -> Result<Memb
     })
 }
 
-// What a span leaves: the parts, for the next one, and its rows.
+// What an epoch leaves: the parts, for the next one, and its rows.
 #[derive(Drop)]
 struct Passed {
     parts: Parts,
@@ -92,7 +69,8 @@ fn add_members(
     Ok(())
 }
 
-// One span, with the cut of the record when all threads are joined, and with its rows, which are taken from the nodes.
+// One epoch, with the cut of the record when all threads are joined, and with its rows, which are
+// taken from the nodes.
 fn through<R: Threads + Wait + Sync, G: Gate + Sync>(
     alloc: Global,
     epoch: &Epoch<'_, R, G>,
@@ -120,16 +98,14 @@ fn through<R: Threads + Wait + Sync, G: Gate + Sync>(
     Ok(Passed { parts, rows })
 }
 
-/// A run of all nodes of a scenario on threads of their own, span by span: an epoch at first, and some, sixteen at most,
-/// while few rows come. It has a record of bounded room; the rows of a span are given as it ends.
+/// A run of all nodes of a scenario on threads of their own, epoch by epoch. It has a record of bounded room; the rows
+/// of an epoch are given as it ends.
 pub struct ThreadRun {
     alloc: Global,
     scenario: Snapshot<Scenario>,
     limit: u64,
     floor: u64,
-    // How many epochs its next span has, but for the limit.
-    span: u64,
-    // Nothing is there while a span runs, nor after one that came to no end.
+    // Nothing is there while an epoch runs, nor after one that came to no end.
     parts: Option<Parts>,
 }
 
@@ -141,7 +117,6 @@ impl Drop for ThreadRun {
             scenario: _,
             limit: _,
             floor: _,
-            span: _,
             parts: _,
         } = self;
     }
@@ -155,21 +130,20 @@ impl Model for ThreadRun {
 
     ghost view = { λ r. record { scenario = r.scenario.value; floor = r.floor; failed = is_gone r.parts } };
 
-    ghost invariant = { λ r. IsRun r.scenario.value r.floor r.limit r.span r.parts };
+    ghost invariant = { λ r. IsRun r.scenario.value r.floor r.limit r.parts };
 }
 
 impl ThreadRun {
-    ghost use Rattle.std.specs.Prelude.{◌≡◌, ◌<◌, ◌≤◌, ◌++◌, ◌==◌, false, replicate, IfOk, OnOk};
-    ghost use Rattle.world_core.specs.Kept.{IsPostedTo};
+    ghost use Rattle.std.specs.Prelude.{◌≡◌, ◌<◌, ◌≤◌, ◌+◌, ◌++◌, ◌==◌, min, false, replicate, IfOk, OnOk};
+    ghost use Rattle.world_core.specs.Kept.{epoch, IsPostedTo};
     ghost use Rattle.world_core.specs.Order.{facts_of};
     ghost use Rattle.node_runner.specs.Scenario.{fleet_of, IsScenario};
     ghost use Rattle.world_core.specs.Consistent.{IsConsistent};
     ghost use Rattle.neighbour_sync.specs.Shows.{shown};
     ghost use Rattle.node_runner.specs.Run.{RunAt};
     ghost use Rattle.fleet_flight.specs.Rows.{rows_upto};
-    ghost use Rattle.fleet_threads.specs.Run.{HasPassed};
 
-    /// The run before its first span: all nodes at reset.
+    /// The run before its first epoch: all nodes at reset.
     pub fn new(alloc: Global, scenario: &Scenario) -> Result<ThreadRun, NoMemory>
         ensures run { IfOk result (λ r. r ≡ record { scenario = scenario.now; floor = 0; failed = false }) }
         ensures sound { IsScenario scenario.now }
@@ -189,12 +163,11 @@ impl ThreadRun {
             scenario: Snapshot::of(scenario),
             limit,
             floor: 0,
-            span: 1,
             parts: Some(parts),
         })
     }
 
-    /// Whether the floor of the record is the limit, so that no span is left.
+    /// Whether the floor of the record is the limit, so that no epoch is left.
     pub fn done(&self) -> bool
         ensures value { result ≡ (self.now.floor == self.now.scenario.topo.limit) }
         ensures within { self.now.floor ≤ self.now.scenario.topo.limit }
@@ -203,14 +176,14 @@ impl ThreadRun {
         self.floor == self.limit
     }
 
-    /// The cycle that all nodes have reached, or stopped before: 0 at first, and the end of the last span after it.
+    /// The cycle that all nodes have reached, or stopped before: 0 at first, and the end of the last epoch after it.
     pub fn floor(&self) -> u64
         ensures { result ≡ self.now.floor }
     {
         self.floor
     }
 
-    /// The record between two spans. It is cut at the floor, and all sends below that were posted in it. With the clocks
+    /// The record between two epochs. It is cut at the floor, and all sends below that were posted in it. With the clocks
     /// of all nodes, each of which stands at the floor, it is a consistent state.
     pub fn air(&self) -> &Air
         requires { self.now.failed ≡ false }
@@ -229,10 +202,9 @@ impl ThreadRun {
         }
     }
 
-    /// The rows of the next epochs, cycle by cycle and in a cycle node by node, with the last row of each node after the
-    /// last epoch. It is one epoch at first; while few rows come, twice as many each time, up to sixteen. Each node has a
-    /// thread of its own; all of them are joined before the call answers. The scenario is the one of `new`. After
-    /// `NoMemory` the run can only be dropped.
+    /// The rows of the next epoch, cycle by cycle and in a cycle node by node, with the last row of each node after the
+    /// last epoch. Each node has a thread of its own; all of them are joined before the call answers. The scenario is
+    /// the one of `new`. After `NoMemory` the run can only be dropped.
     pub fn epoch<R: Threads + Wait + Sync, G: Gate + Sync>(
         &mut self,
         rt: &R,
@@ -243,7 +215,7 @@ impl ThreadRun {
         requires more { self.old.floor < self.old.scenario.topo.limit }
         requires sound { self.old.failed ≡ false }
         ensures rows { IfOk result (λ v. rows_upto (fleet_of scenario.now) self.new.floor ≡ rows_upto (fleet_of scenario.now) self.old.floor ++ v.items) }
-        ensures after { OnOk result (HasPassed self.old self.new) }
+        ensures after { OnOk result (self.new ≡ record self.old { floor = min (self.old.floor + epoch) self.old.scenario.topo.limit }) }
         ensures scenario { self.new.scenario ≡ self.old.scenario }
     {
         let Some(parts) = self.parts.take() else {
@@ -252,7 +224,7 @@ impl ThreadRun {
         // The call's clause says that the scenario is one (`IsScenario`), which what follows rests on.
         let _lawful = scenario.lawful_topo();
         let floor = self.floor;
-        let end = (floor + self.span * EPOCH).min(self.limit);
+        let end = (floor + EPOCH).min(self.limit);
         let refused = AtomicU64::new(NOBODY);
         let epoch = Epoch {
             rt,
@@ -264,7 +236,6 @@ impl ThreadRun {
         };
         let passed = through(self.alloc, &epoch, parts)?;
         self.floor = end;
-        self.span = next_span(self.span, passed.rows.len());
         self.parts = Some(passed.parts);
         Ok(passed.rows)
     }

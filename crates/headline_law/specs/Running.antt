@@ -11,13 +11,13 @@ use Rattle.air_base.specs.declared.air.Heard.{Heard as HeardValue}
 use Rattle.world_core.specs.declared.world.WorldFacts.{WorldFacts}
 use Rattle.world_core.specs.Sends.{sends_below, IsSendNumber}
 use Rattle.world_core.specs.Posted.{sent_of}
-use Rattle.world_core.specs.Kept.{IsPostedTo}
+use Rattle.world_core.specs.Kept.{epoch, IsPostedTo}
 use Rattle.sync_core.specs.declared.steps.Step.TheVariants.{Raise, Post, Sample}
 use Rattle.sync_core.specs.Moves.{Move, Take, Cut}
 use Rattle.neighbour_sync.specs.declared.answers.Posted.TheVariants.{Added}
 use Rattle.neighbour_sync.specs.declared.rule.View.{View}
 use Rattle.neighbour_sync.specs.Layout.{clock_at, sent_at}
-use Rattle.neighbour_sync.specs.Record.{longest_span, AirRecord, IsHeard, IsPost, cut_at, first_record, with_loads}
+use Rattle.neighbour_sync.specs.Record.{AirRecord, IsHeard, IsPost, cut_at, first_record, with_loads}
 use Rattle.neighbour_sync.specs.Rule.{KeepsRule}
 use Rattle.neighbour_sync.specs.Shows.{AreAlike, after_step, first_words}
 use Rattle.neighbour_sync.specs.Steps.{with_clock, with_load, with_sent}
@@ -47,7 +47,7 @@ pub data RunStep : Type 0 where
 abbrev pub IsTaken : Running → RunStep → Running → Type 0
 IsTaken a (Raises k c) b = (v : View) × (get_elem? a.words.views (suc k) ≡ some v) × (v.clock ≤ c) × (c ≤ a.air.world.topo.limit) × (sends_below a.air.world.sends k c ≤ v.told)
     × (b ≡ record { words = after_step a.words (clock_at k) c (suc k) (with_clock v c); air = a.air; clocks = slice_set a.clocks k c })
-IsTaken a (Posts x n) b = (v : View) × (new : AirRecord) × (get_elem? a.words.views 0 ≡ some v) × IsSendNumber a.air.world n x × (x.cycle < a.air.floor + longest_span) × IsPost a.air x n Added new
+IsTaken a (Posts x n) b = (v : View) × (new : AirRecord) × (get_elem? a.words.views 0 ≡ some v) × IsSendNumber a.air.world n x × (x.cycle < a.air.floor + epoch) × IsPost a.air x n Added new
     × (b ≡ record { words = after_step a.words (sent_at a.air.world.topo.nodes x.node) (sent_of a.air.sent x.node + 1) 0 (with_sent v x.node); air = new; clocks = a.clocks })
 IsTaken a (Loads k) b = (v : View) × (get_elem? a.words.views 0 ≡ some v) × (k < a.air.world.topo.nodes)
     × (b ≡ record { words = after_step a.words (clock_at k) (slice_index a.words.words (clock_at k)) 0 (with_load v k (slice_index a.words.words (clock_at k))); air = with_loads a.air ((k, slice_index a.words.words (clock_at k)) ∷ []); clocks = a.clocks })

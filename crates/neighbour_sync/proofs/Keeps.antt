@@ -11,7 +11,7 @@ use Rattle.world_core.specs.Topology.{Topology}
 use Rattle.world_core.specs.Heard.{heard}
 use Rattle.world_core.specs.Sends.{IsSendNumber}
 use Rattle.world_core.specs.Posted.{sent_of, AllPostedFor}
-use Rattle.world_core.specs.Kept.{is_kept, kept_room_of, IsPostedTo}
+use Rattle.world_core.specs.Kept.{epoch, is_kept, kept_room_of, IsPostedTo}
 use Rattle.world_core.specs.Settled.{truth}
 use Rattle.world_core.specs.Lawful.{IsLawful}
 use Rattle.world_core.proofs.Room.{kept_room}
@@ -19,14 +19,14 @@ use Rattle.world_core.proofs.Records.{record_opens, record_posted, record_sample
 use Rattle.world_core.specs.Chain.{LogFacts, log_of}
 use Rattle.neighbour_sync.specs.Seats.{AirFacts, air_counted}
 use Rattle.neighbour_sync.specs.Loads.{looked}
-use Rattle.neighbour_sync.specs.Record.{longest_span, AirRecord, IsSound, with_send, with_sample, cut_at}
+use Rattle.neighbour_sync.specs.Record.{AirRecord, IsSound, with_send, with_sample, cut_at}
 use Rattle.neighbour_sync.specs.Held.{record_of, IsHeld}
 
-pub posted_sound : (r : AirRecord) (x : Send) → IsSound r → IsSendNumber r.world (sent_of r.sent x.node) x → x.cycle < r.floor + longest_span → IsSound (with_send r x)
+pub posted_sound : (r : AirRecord) (x : Send) → IsSound r → IsSendNumber r.world (sent_of r.sent x.node) x → x.cycle < r.floor + epoch → IsSound (with_send r x)
 posted_sound r x h next early = record {
   lawful = h.lawful;
   recorded = record_posted r.world r.floor r.sent r.sends r.samples x h.lawful h.recorded next;
-  early = All-push (λ y. y.cycle < r.floor + longest_span) r.sends x h.early early;
+  early = All-push (λ y. y.cycle < r.floor + epoch) r.sends x h.early early;
   within = h.within;
 }
 
@@ -42,18 +42,18 @@ pub cut_sound : (r : AirRecord) (f : ℕ) → IsSound r → r.floor ≤ f → f 
 cut_sound r f i rises within posted = record {
   lawful = i.lawful;
   recorded = record_cut r.world r.floor f r.sent r.sends r.samples i.recorded rises posted;
-  early = All-weaker (λ x. x.cycle < r.floor + longest_span) (λ x. x.cycle < f + longest_span) (λ x lt. omega arith) (filter (is_kept r.world.topo f) r.sends) (All-filter (is_kept r.world.topo f) (λ x. x.cycle < r.floor + longest_span) r.sends i.early);
+  early = All-weaker (λ x. x.cycle < r.floor + epoch) (λ x. x.cycle < f + epoch) (λ x lt. omega arith) (filter (is_kept r.world.topo f) r.sends) (All-filter (is_kept r.world.topo f) (λ x. x.cycle < r.floor + epoch) r.sends i.early);
   within = within;
 }
 
 -- there is room for one more
-pub room_left : (r : AirRecord) (x : Send) → IsSound r → IsSendNumber r.world (sent_of r.sent x.node) x → x.cycle < r.floor + longest_span → length r.sends < kept_room_of r.world.topo longest_span
+pub room_left : (r : AirRecord) (x : Send) → IsSound r → IsSendNumber r.world (sent_of r.sent x.node) x → x.cycle < r.floor + epoch → length r.sends < kept_room_of r.world.topo epoch
 room_left r x h next early =
     let p = posted_sound r x h next early in
-    let most = kept_room r.world r.floor longest_span (with_send r x).sent (with_send r x).sends h.lawful p.recorded.posted p.recorded.inside p.early in
+    let most = kept_room r.world r.floor epoch (with_send r x).sent (with_send r x).sends h.lawful p.recorded.posted p.recorded.inside p.early in
     omega (arith, length-append r.sends (x ∷ []))
 
-pub held_posted : (a new : AirFacts) (t : Topology) (l m : LogFacts) (floor : ℕ) (samples : List (Ask × Heard)) (x : Send) → IsHeld a t l floor samples → IsSendNumber a.world (sent_of a.sent x.node) x → x.cycle < floor + longest_span
+pub held_posted : (a new : AirFacts) (t : Topology) (l m : LogFacts) (floor : ℕ) (samples : List (Ask × Heard)) (x : Send) → IsHeld a t l floor samples → IsSendNumber a.world (sent_of a.sent x.node) x → x.cycle < floor + epoch
     → new ≡ air_counted a x.node → m ≡ log_of (l.sends ++ x ∷ []) l.room → IsHeld new t m floor samples
 held_posted a new t l m floor samples x h next early is grown =
     subst (λ (b : AirFacts). IsHeld b t m floor samples) (sym is) (subst (λ (n : LogFacts). IsHeld (air_counted a x.node) t n floor samples) (sym grown)
@@ -88,14 +88,14 @@ held_cut a t l m floor f samples kept held rises within posted cut dropped =
       room = held.room;
     })
 
-pub held_first : (a : AirFacts) (w : WorldFacts) (t : Topology) (l : LogFacts) (samples : List (Ask × Heard)) → IsLawful w → a.world ≡ w → a.sent ≡ replicate w.topo.nodes 0 → t ≡ w.topo → l ≡ log_of [] (kept_room_of t longest_span) → samples ≡ []
+pub held_first : (a : AirFacts) (w : WorldFacts) (t : Topology) (l : LogFacts) (samples : List (Ask × Heard)) → IsLawful w → a.world ≡ w → a.sent ≡ replicate w.topo.nodes 0 → t ≡ w.topo → l ≡ log_of [] (kept_room_of t epoch) → samples ≡ []
     → IsHeld a t l 0 samples
 held_first a w t l samples law world sent topo empty none =
     let law' : IsLawful a.world = subst IsLawful (sym world) law in
     let sent' : a.sent ≡ replicate a.world.topo.nodes 0 = sent ∙ ap (λ (v : WorldFacts). replicate v.topo.nodes 0) (sym world) in
     let topo' : t ≡ a.world.topo = topo ∙ ap (λ (v : WorldFacts). v.topo) (sym world) in
-    let room : kept_room_of a.world.topo longest_span ≤ kept_room_of t longest_span = subst (λ (u : Topology). kept_room_of u longest_span ≤ kept_room_of t longest_span) topo' (omega arith) in
-    subst (λ (n : LogFacts). IsHeld a t n 0 samples) (sym empty) (subst (IsHeld a t (log_of [] (kept_room_of t longest_span)) 0) (sym none) record {
+    let room : kept_room_of a.world.topo epoch ≤ kept_room_of t epoch = subst (λ (u : Topology). kept_room_of u epoch ≤ kept_room_of t epoch) topo' (omega arith) in
+    subst (λ (n : LogFacts). IsHeld a t n 0 samples) (sym empty) (subst (IsHeld a t (log_of [] (kept_room_of t epoch)) 0) (sym none) record {
       topo = topo';
       sound = record { lawful = law'; recorded = rw sent' (record_opens a.world); early = λ i d lt. absurd (omega arith); within = omega arith };
       room = room;

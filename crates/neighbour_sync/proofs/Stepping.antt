@@ -15,7 +15,7 @@ use Rattle.world_core.specs.Heard.{heard}
 use Rattle.world_core.specs.Sends.{sends_below, sends_of, IsSendNumber}
 use Rattle.world_core.specs.Posted.{sent_of, AllPostedFor}
 use Rattle.world_core.specs.Settled.{truth}
-use Rattle.world_core.specs.Kept.{IsPostedTo}
+use Rattle.world_core.specs.Kept.{epoch, IsPostedTo}
 use Rattle.world_core.specs.Lawful.{IsLawful}
 use Rattle.world_core.specs.Consistent.{clock_of}
 use Rattle.world_core.specs.Steps.{AllPassed, MayCut, MayPost, MayRaise, MaySample, after_cut, after_post, after_raise, after_sample}
@@ -26,7 +26,7 @@ use Rattle.neighbour_sync.specs.declared.rule.View.{View}
 use Rattle.neighbour_sync.specs.declared.answers.Posted.TheVariants.{Added}
 use Rattle.neighbour_sync.specs.Layout.{clock_at, sent_at}
 use Rattle.neighbour_sync.specs.Looks.{IsSeenPast, AreSeenPast}
-use Rattle.neighbour_sync.specs.Record.{longest_span, AirRecord, IsHeard, IsPost, cut_at, with_loads, with_sample, with_send}
+use Rattle.neighbour_sync.specs.Record.{AirRecord, IsHeard, IsPost, cut_at, with_loads, with_sample, with_send}
 use Rattle.neighbour_sync.specs.Rule.{KeepsRule}
 use Rattle.neighbour_sync.specs.Shows.{shown, AreAlike, AreRisen, AreShown, after_step}
 use Rattle.neighbour_sync.specs.Steps.{with_clock, with_load, with_sent}
@@ -73,7 +73,7 @@ raised s r clocks k c v a at rises within told =
     (record { node = lt; rises = rises'; within = within; posted = posted }, shows, refl)
 
 -- ---- post
-pub posted : (s : Table) (r new : AirRecord) (clocks : List ℕ) (x : Send) (n : ℕ) (v : View) → AreShown s r clocks → get_elem? s.views 0 ≡ some v → IsSendNumber r.world n x → x.cycle < r.floor + longest_span → IsPost r x n Added new
+pub posted : (s : Table) (r new : AirRecord) (clocks : List ℕ) (x : Send) (n : ℕ) (v : View) → AreShown s r clocks → get_elem? s.views 0 ≡ some v → IsSendNumber r.world n x → x.cycle < r.floor + epoch → IsPost r x n Added new
     → MayPost (shown r clocks) x.node × AreShown (after_step s (sent_at r.world.topo.nodes x.node) (sent_of r.sent x.node + 1) 0 (with_sent v x.node)) new clocks × (shown new clocks ≡ after_post (shown r clocks) x.node)
 posted s r new clocks x m v a at next early is =
     let w = r.world in

@@ -10,17 +10,13 @@ use Rattle.air_base.specs.declared.air.Sampled.{Sampled}
 use Rattle.air_base.specs.declared.air.Sampled.TheVariants.{Heard, NotYet, NoMemory}
 use Rattle.world_core.specs.declared.world.WorldFacts.{WorldFacts}
 use Rattle.world_core.specs.Posted.{sent_of}
-use Rattle.world_core.specs.Kept.{is_kept}
+use Rattle.world_core.specs.Kept.{epoch, is_kept}
 use Rattle.world_core.specs.Settled.{truth, IsRecorded}
 use Rattle.world_core.specs.Lawful.{IsLawful}
 use Rattle.neighbour_sync.specs.declared.answers.Posted.{Posted}
 use Rattle.neighbour_sync.specs.declared.answers.Posted.TheVariants.{Added, There, Early}
 use Rattle.neighbour_sync.specs.Loads.{IsBehind}
 use Rattle.neighbour_sync.specs.Looks.{AreSeenPast}
-
--- how many cycles a span of a run has at most, from one cut of its record to the next: those of sixteen epochs
-abbrev pub longest_span : ℕ
-longest_span = 4194304
 
 -- The words that it goes by and the world, what its seat knows (how many sends of each node are posted, and the clocks
 -- that it loaded), the cycle up to which it is cut, and the sends and samples in the order in which they were recorded.
@@ -38,7 +34,7 @@ pub record AirRecord : Type 0 where
 pub record IsSound (r : AirRecord) : Type 0 where
   pub lawful : IsLawful r.world
   pub recorded : IsRecorded r.world r.floor r.sent r.sends r.samples
-  pub early : All (λ x. x.cycle < r.floor + longest_span) r.sends
+  pub early : All (λ x. x.cycle < r.floor + epoch) r.sends
   pub within : r.floor ≤ r.world.topo.limit
 
 abbrev pub first_record : TableId → WorldFacts → List (ℕ × ℕ) → AirRecord

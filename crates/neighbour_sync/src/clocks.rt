@@ -36,7 +36,7 @@ pub(crate) type Words<W> = Table<(), View, Snapshot<W>, ClockRule, Global>;
 /// is cleared later, the wake behind that finds it. A want that is cleared unseen, or that was not passed yet, is not
 /// lost either: its sleep ends the same way, and it is put there anew. Where another has lowered the word meanwhile,
 /// the sleep ends at once too, or begins at a want that is no higher than its own, and so is passed no later. (The
-/// system compares the low half of the word. The wants of one span lie closer than that, and one of an earlier span
+/// system compares the low half of the word. The wants of one epoch lie closer than that, and one of an earlier epoch
 /// is below the clock, so the node's next raise clears it; a want whose low half is that of `NOBODY`, one in each
 /// 4,294,967,296 cycles, could sleep for its longest time.)
 pub struct Clocks<W: World> {

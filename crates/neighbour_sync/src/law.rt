@@ -11,13 +11,13 @@ ghost use Rattle.world_core.specs.declared.world.WorldFacts.{WorldFacts};
 ghost use Rattle.world_core.specs.Lawful.{IsLawful};
 ghost use Rattle.world_core.specs.Sends.{sends_below, IsSendNumber};
 ghost use Rattle.world_core.specs.Posted.{sent_of};
-ghost use Rattle.world_core.specs.Kept.{IsPostedTo};
+ghost use Rattle.world_core.specs.Kept.{epoch, IsPostedTo};
 ghost use Rattle.world_core.specs.Consistent.{IsConsistent};
 ghost use Rattle.world_core.specs.Steps.{opening, MayCut, MayPost, MayRaise, MaySample, after_cut, after_post, after_raise, after_sample};
 ghost use Rattle.neighbour_sync.specs.declared.answers.Posted.TheVariants.{Added};
 ghost use Rattle.neighbour_sync.specs.declared.rule.View.{View};
 ghost use Rattle.neighbour_sync.specs.Layout.{clock_at, sent_at};
-ghost use Rattle.neighbour_sync.specs.Record.{longest_span, AirRecord, IsHeard, IsPost, cut_at, first_record, with_loads};
+ghost use Rattle.neighbour_sync.specs.Record.{AirRecord, IsHeard, IsPost, cut_at, first_record, with_loads};
 ghost use Rattle.neighbour_sync.specs.Rule.{KeepsRule};
 ghost use Rattle.neighbour_sync.specs.Shows.{shown, AreAlike, AreShown, after_step, first_words};
 ghost use Rattle.neighbour_sync.specs.Steps.{with_clock, with_load, with_sent};
@@ -40,7 +40,7 @@ pub fn step_law()
         → v.clock ≤ c → c ≤ r.world.topo.limit → sends_below r.world.sends k c ≤ v.told
         → MayRaise (shown r clocks) k c × AreShown (after_step s (clock_at k) c (suc k) (with_clock v c)) r (slice_set clocks k c) × (shown r (slice_set clocks k c) ≡ after_raise (shown r clocks) k c) }
     ensures posted { (s : State (Unit {0}) View) (r new : AirRecord) (clocks : List ℕ) (x : Send) (n : ℕ) (v : View) → AreShown s r clocks → get_elem? s.views 0 ≡ some v
-        → IsSendNumber r.world n x → x.cycle < r.floor + longest_span → IsPost r x n Added new
+        → IsSendNumber r.world n x → x.cycle < r.floor + epoch → IsPost r x n Added new
         → MayPost (shown r clocks) x.node × AreShown (after_step s (sent_at r.world.topo.nodes x.node) (sent_of r.sent x.node + 1) 0 (with_sent v x.node)) new clocks × (shown new clocks ≡ after_post (shown r clocks) x.node) }
     ensures loaded { (s : State (Unit {0}) View) (r : AirRecord) (clocks : List ℕ) (k : ℕ) (v : View) → AreShown s r clocks → get_elem? s.views 0 ≡ some v → k < r.world.topo.nodes
         → AreShown (after_step s (clock_at k) (slice_index s.words (clock_at k)) 0 (with_load v k (slice_index s.words (clock_at k)))) (with_loads r ((k, slice_index s.words (clock_at k)) ∷ [])) clocks }

@@ -30,7 +30,7 @@ pub use cutting::cut_when_passed;
 pub use law::{state_law, step_law};
 pub use node::NodeAir;
 pub use opening::open_air;
-pub use record::{Air, LONGEST_SPAN};
+pub use record::Air;
 pub use seats::{AirSeat, NodeSeat};
 pub use session::Session;
 pub use shared::Shared;

@@ -44,7 +44,7 @@ impl NodeAir {
     ghost use Rattle.std.specs.List.{Contains};
     ghost use Rattle.world_core.specs.Sends.{sends_below, IsSendNumber};
     ghost use Rattle.neighbour_sync.specs.Seats.{node_raised, node_told, node_stopped};
-    ghost use Rattle.neighbour_sync.specs.Record.{longest_span};
+    ghost use Rattle.world_core.specs.Kept.{epoch};
     ghost use Rattle.neighbour_sync.specs.Tries.{IsTried};
     ghost use Rattle.neighbour_sync.specs.Waits.{IsPassed};
 
@@ -90,7 +90,7 @@ impl NodeAir {
     }
 
     /// Posts a send of the node, which is number `number` of its sends, counted from 0, and lies below the session's
-    /// floor and the longest span, by one try under the lock, and looks once whether it is counted: if so, the node's next raise
+    /// floor and an epoch, by one try under the lock, and looks once whether it is counted: if so, the node's next raise
     /// may pass it. It takes no memory. Where all its sends before that one are posted it is counted, which no clause
     /// says.
     pub fn try_post<W: World, N: Session, R: Wait>(
@@ -103,7 +103,7 @@ impl NodeAir {
         requires session { (self.old.table ≡ N.table) × (self.old.world ≡ N.world) }
         requires node { send.node ≡ self.old.number }
         requires number { IsSendNumber N.world number send }
-        requires early { send.cycle < N.floor + longest_span }
+        requires early { send.cycle < N.floor + epoch }
         ensures told { result ≡ true → number < self.new.told }
         ensures rises { self.old.told ≤ self.new.told }
         ensures same { self.new ≡ node_told self.old self.new.told }
@@ -122,7 +122,7 @@ impl NodeAir {
         requires session { (self.old.table ≡ N.table) × (self.old.world ≡ N.world) }
         requires node { send.node ≡ self.old.number }
         requires number { IsSendNumber N.world number send }
-        requires early { send.cycle < N.floor + longest_span }
+        requires early { send.cycle < N.floor + epoch }
         ensures told { number < self.new.told }
         ensures rises { self.old.told ≤ self.new.told }
         ensures same { self.new ≡ node_told self.old self.new.told }

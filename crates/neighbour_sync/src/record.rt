@@ -1,19 +1,18 @@
 // The record.
 ghost use Rattle.std.specs.Prelude.{◌≡◌, nat_le};
 ghost use Rattle.std.specs.List.{filter};
-ghost use Rattle.world_core.specs.Kept.{kept_room_of};
-ghost use Rattle.neighbour_sync.specs.Record.{longest_span};
+ghost use Rattle.world_core.specs.Kept.{epoch, kept_room_of};
 
 use crate::loading::{first_behind, first_below};
 use crate::{AirSeat, Behind, Clocks, Posted};
 use air_base::{Ask, Heard, Sampled, Send};
 use std::alloc::Global;
 use std::marker::Model;
-use world_core::{NoMemory, SendLog, Topo, World};
+use world_core::{EPOCH, NoMemory, SendLog, Topo, World};
 
 /// The record of the sends and samples of a world, with the air's seat. Whenever no call is at work on it, each
 /// recorded sample is what the one order of all cycles gives, and no send that is still to be posted can alter it. Its
-/// room is that of the sends of the longest span: it is cut at the end of each.
+/// room is that of the sends of an epoch: it is cut at the end of each.
 pub struct Air {
     // What each sample touches stands first, together: the topology has 12 KB.
     seat: AirSeat,
@@ -54,15 +53,12 @@ fn drop_below(samples: &mut Vec<(Ask, Heard)>, floor: u64)
     samples.retain(|x| x.0.cycle >= floor);
 }
 
-/// How many cycles a span of a run has at most, from one cut of the record to the next: those of sixteen epochs.
-pub const LONGEST_SPAN: u64 = 4_194_304;
-
-// Room for the sends of the longest span. Where few are sent, most of it is never touched.
+// Room for the sends of an epoch.
 fn room_for(topo: &Topo) -> usize
-    ensures { result ≡ kept_room_of topo.now longest_span }
+    ensures { result ≡ kept_room_of topo.now epoch }
 {
     let byte_time = topo.byte_time();
-    let each = (topo.reach() + byte_time + LONGEST_SPAN) / byte_time + 1;
+    let each = (topo.reach() + byte_time + EPOCH) / byte_time + 1;
     usize::from(topo.nodes()) * each as usize
 }
 
@@ -70,11 +66,11 @@ impl Air {
     ghost use Rattle.std.specs.Prelude.{◌≡◌, ◌+◌, ◌≤◌, ◌<◌, ◌∷◌, ◌++◌, [], ℕ, List, replicate, IfOk, IfErr};
     ghost use Rattle.std.specs.List.{Contains};
     ghost use Rattle.world_core.specs.Sends.{IsSendNumber};
-    ghost use Rattle.world_core.specs.Kept.{IsPostedTo};
+    ghost use Rattle.world_core.specs.Kept.{epoch, IsPostedTo};
     ghost use Rattle.world_core.specs.Consistent.{IsConsistent};
     ghost use Rattle.neighbour_sync.specs.Loads.{AreReached, pair_of};
     ghost use Rattle.neighbour_sync.specs.Shows.{shown};
-    ghost use Rattle.neighbour_sync.specs.Record.{longest_span, first_record, with_loads, cut_at, IsSound, IsPost, IsSample};
+    ghost use Rattle.neighbour_sync.specs.Record.{first_record, with_loads, cut_at, IsSound, IsPost, IsSample};
 
     /// The empty record, which takes its room for sends here.
     pub fn new<W: World>(alloc: Global, world: &W, seat: AirSeat) -> Result<Air, NoMemory>
@@ -93,13 +89,13 @@ impl Air {
         })
     }
 
-    /// Records a send, which is number `number` of its node, counted from 0, and lies below the floor and the longest span.
+    /// Records a send, which is number `number` of its node, counted from 0, and lies below the floor and an epoch.
     /// `Added` exactly where it is the next one; `There` exactly where it was posted before; `Early` exactly where
     /// others of its node come before it. `There` and `Early` change nothing. It takes no memory.
     pub fn post<W: World>(&mut self, clocks: &Clocks<W>, send: Send, number: u64) -> Posted
         requires table { self.old.table ≡ clocks.now.table }
         requires number { IsSendNumber self.old.world number send }
-        requires early { send.cycle < self.old.floor + longest_span }
+        requires early { send.cycle < self.old.floor + epoch }
         ensures step { IsPost self.old send number result self.new }
         ensures same { (self.new.table ≡ self.old.table) × (self.new.world ≡ self.old.world) × (self.new.floor ≡ self.old.floor) }
     {

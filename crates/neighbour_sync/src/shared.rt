@@ -32,13 +32,14 @@ impl<N: Session> Locked<N> {
     ghost use Rattle.std.specs.Prelude.{◌≡◌, ◌+◌, ◌≤◌, ◌<◌};
     ghost use Rattle.std.specs.List.{Contains};
     ghost use Rattle.world_core.specs.Sends.{IsSendNumber};
-    ghost use Rattle.neighbour_sync.specs.Record.{longest_span, IsPost, IsSample};
+    ghost use Rattle.world_core.specs.Kept.{epoch};
+    ghost use Rattle.neighbour_sync.specs.Record.{IsPost, IsSample};
     ghost use Rattle.neighbour_sync.specs.Told.{IsTold};
 
     fn post<W: World>(&mut self, clocks: &Clocks<W>, send: Send, number: u64) -> Posted
         requires table { clocks.now.table ≡ N.table }
         requires number { IsSendNumber N.world number send }
-        requires early { send.cycle < N.floor + longest_span }
+        requires early { send.cycle < N.floor + epoch }
         ensures { IsPost self.old send number result self.new }
     {
         self.air.post(clocks, send, number)
@@ -70,7 +71,8 @@ impl<W: World, N: Session> Shared<W, N> {
     ghost use Rattle.std.specs.Prelude.{◌≡◌, ◌+◌, ◌≤◌, ◌<◌};
     ghost use Rattle.std.specs.List.{Contains};
     ghost use Rattle.world_core.specs.Sends.{IsSendNumber};
-    ghost use Rattle.neighbour_sync.specs.Record.{longest_span, IsSound};
+    ghost use Rattle.world_core.specs.Kept.{epoch};
+    ghost use Rattle.neighbour_sync.specs.Record.{IsSound};
     ghost use Rattle.neighbour_sync.specs.Told.{IsTold};
     ghost use Rattle.neighbour_sync.specs.Parts.{AreParts};
 
@@ -112,7 +114,7 @@ impl<W: World, N: Session> Shared<W, N> {
     // Posts a send under the lock.
     pub(crate) fn post<R: Wait>(&self, rt: &R, send: Send, number: u64) -> Posted
         requires number { IsSendNumber N.world number send }
-        requires early { send.cycle < N.floor + longest_span }
+        requires early { send.cycle < N.floor + epoch }
     {
         self.lock.lock(rt).post(&self.clocks, send, number)
     }

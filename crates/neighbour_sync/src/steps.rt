@@ -3,7 +3,7 @@ ghost use Rattle.std.specs.Prelude.{◌≡◌, ◌+◌, ◌≤◌, ◌<◌, true
 ghost use Rattle.std.specs.List.{Contains};
 ghost use Rattle.world_core.specs.Sends.{IsSendNumber};
 ghost use Rattle.neighbour_sync.specs.Seats.{node_told};
-ghost use Rattle.neighbour_sync.specs.Record.{longest_span};
+ghost use Rattle.world_core.specs.Kept.{epoch};
 ghost use Rattle.neighbour_sync.specs.Tries.{IsTried};
 
 use crate::NodeSeat;
@@ -26,7 +26,7 @@ pub fn post_once<W: World, N: Session, R: Wait>(
 ) -> bool
     requires table { seat.old.table ≡ N.table }
     requires number { IsSendNumber N.world number send }
-    requires early { send.cycle < N.floor + longest_span }
+    requires early { send.cycle < N.floor + epoch }
     ensures told { result ≡ true → number < seat.new.told }
     ensures rises { seat.old.told ≤ seat.new.told }
     ensures same { seat.new ≡ node_told seat.old seat.new.told }
@@ -46,7 +46,7 @@ pub fn post_until_seen<W: World, N: Session, R: Wait>(
 )
     requires table { seat.old.table ≡ N.table }
     requires number { IsSendNumber N.world number send }
-    requires early { send.cycle < N.floor + longest_span }
+    requires early { send.cycle < N.floor + epoch }
     ensures told { number < seat.new.told }
     ensures rises { seat.old.told ≤ seat.new.told }
     ensures same { seat.new ≡ node_told seat.old seat.new.told }

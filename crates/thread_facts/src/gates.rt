@@ -189,7 +189,7 @@ impl<'t> Gate for SecondIsLate<'t> {
     }
 }
 
-/// Holds nobody, and notes the turn that was told last.
+/// Holds nobody, and notes the last turn of a lone node.
 #[derive(Drop)]
 pub struct LastTurn<'t>(pub &'t AtomicU64);
 

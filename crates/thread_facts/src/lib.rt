@@ -10,7 +10,7 @@ mod gates;
 mod runs;
 
 use gates::{AllBegin, Counted, FirstIsLate, LastTurn, NoThread, SecondIsLate, Told};
-use runs::{write_call, write_end, write_floors, write_rows};
+use runs::{write_call, write_end, write_rows};
 use sim_io::{Sink, write_all};
 use std::fs::Files;
 use std::sync::Wait;
@@ -47,9 +47,6 @@ static ON_ONE: [&str; 15] = [
 const MADE: u64 = 8;
 
 static LONG: [&str; 3] = ["avrora", "run", "gates_long.toml"];
-
-// Two nodes that give two rows an epoch each.
-static QUIET: [&str; 3] = ["avrora", "run", "gates_quiet.toml"];
 
 // The number of no node.
 const NOBODY: u8 = u8::MAX;
@@ -193,43 +190,21 @@ fn second_is_late<R: Threads + Wait + Files + AllocGlobal + Sync, O: Sink>(
     write_seen("it went ahead", !told.gave_up() && told.has(1, 0), out)
 }
 
-// The whole program, called by these words, where the write with this number fails: it was told no turn past this one.
-fn call_failing<R: Threads + Wait + Files + AllocGlobal + Sync, O: Sink>(
-    rt: &R,
-    words: &[&str],
-    fails: u64,
-    turn: u64,
-    out: &mut O,
-) -> Result<(), Failed> {
-    let last = AtomicU64::new(0);
-    write_end(rt, words, Some(fails), &LastTurn(&last), out)?;
-    write_number("no turn may be told above", turn, out)?;
-    write_seen("none was", last.load(Ordering::SeqCst) <= turn, out)
-}
-
-// The rows of the first epoch, of 256 turns, are written before the second is run; of a quiet network, those of the next
-// two before the fourth is run, and after 15 epochs those of 16.
+// The rows of the first epoch, of 256 turns, are written before the second is run.
 fn epochs<R: Threads + Wait + Files + AllocGlobal + Sync, O: Sink>(
     rt: &R,
     out: &mut O,
 ) -> Result<(), Failed> {
-    write_line("# a span is written before the next one is run", out)?;
-    call_failing(rt, &LONG, 0, 255, out)?;
+    write_line("# an epoch is written before the next one is run", out)?;
     let last = AtomicU64::new(0);
+    write_call(rt, &LONG, Some(0), &LastTurn(&last), out)?;
+    write_seen(
+        "no turn above 255 was told",
+        last.load(Ordering::SeqCst) <= 255,
+        out,
+    )?;
     write_call(rt, &LONG, None, &LastTurn(&last), out)?;
-    write_seen("turn 256 was told", last.load(Ordering::SeqCst) >= 256, out)?;
-    call_failing(rt, &QUIET, 1, 767, out)?;
-    call_failing(rt, &QUIET, 4, 7935, out)
-}
-
-// Where few rows come a span is twice as long as the one before, up to sixteen epochs, and where many come an epoch.
-fn spans<R: Threads + Wait + Files + AllocGlobal + Sync, O: Sink>(
-    rt: &R,
-    out: &mut O,
-) -> Result<(), Failed> {
-    write_line("# spans of a quiet network, and of one that wakes", out)?;
-    write_floors(rt, "gates_quiet.hex", 12_400_000, out)?;
-    write_floors(rt, "gates_late.hex", 5_000_000, out)
+    write_seen("turn 256 was told", last.load(Ordering::SeqCst) >= 256, out)
 }
 
 // The whole program, called by these words: it tells of no turn, and begins no thread.
@@ -245,7 +220,7 @@ fn call_on_one<R: Threads + Wait + Files + AllocGlobal + Sync, O: Sink>(
         turns: &turns,
         threads: &threads,
     };
-    write_end(rt, words.as_slice(), None, &gate, out)?;
+    write_end(rt, words.as_slice(), &gate, out)?;
     let seen = turns.load(Ordering::SeqCst) == 0 && threads.load(Ordering::SeqCst) == 0;
     write_seen("no node was on a thread of its own", seen, out)
 }
@@ -263,23 +238,19 @@ fn on_one<R: Threads + Wait + Files + AllocGlobal + Sync, O: Sink>(
     Ok(())
 }
 
-// The thread of the call is the last node's: of two nodes one has a thread begun for it in each span, and a lone one has
-// none.
+// The thread of the call is the last node's: of two nodes one has a thread begun for it, and a lone one has none.
 fn own_thread<R: Threads + Wait + Files + AllocGlobal + Sync, O: Sink>(
     rt: &R,
     out: &mut O,
 ) -> Result<(), Failed> {
-    write_line(
-        "# threads begun for two nodes, for eight, for one, and for two in seven spans",
-        out,
-    )?;
-    for words in [&RUN, &MAKE, &LONG, &QUIET] {
+    write_line("# threads begun for two nodes, for eight and for one", out)?;
+    for words in [&RUN, &MAKE, &LONG] {
         let (turns, threads) = (AtomicU64::new(0), AtomicU64::new(0));
         let gate = Counted {
             turns: &turns,
             threads: &threads,
         };
-        write_end(rt, words, None, &gate, out)?;
+        write_end(rt, words, &gate, out)?;
         write_number("threads", threads.load(Ordering::SeqCst), out)?;
     }
     Ok(())
@@ -296,7 +267,6 @@ pub fn do_all<R: Threads + Wait + Files + AllocGlobal + Sync, O: Sink>(
     first_is_late(rt, out)?;
     second_is_late(rt, out)?;
     epochs(rt, out)?;
-    spans(rt, out)?;
     on_one(rt, out)?;
     own_thread(rt, out)
 }

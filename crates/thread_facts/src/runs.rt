@@ -1,7 +1,7 @@
 // The runs that gates look at: one network through `run_threads`, and the same by the program and its words.
 use avr_program::Program;
 use commands::run_program;
-use fleet_threads::{Gate, OpenGate, ThreadRun, run_threads};
+use fleet_threads::{Gate, run_threads};
 use ihex_loader::{Flash, load};
 use memory_io::MemSink;
 use node_runner::Scenario;
@@ -26,20 +26,15 @@ fn flash_in<R: Files + AllocGlobal>(rt: &R, name: &str) -> Result<Flash, Failed>
     }
 }
 
-// Two nodes with these images.
-fn two_nodes<R: Files + AllocGlobal>(
-    rt: &R,
-    first: &str,
-    second: &str,
-    cycles: u64,
-    links: Vec<Link>,
-) -> Result<Scenario, Failed> {
+// The network of gates.toml: node 1 hears node 0, both send and sample.
+fn two_rings<R: Files + AllocGlobal>(rt: &R) -> Result<Scenario, Failed> {
     let alloc = rt.alloc();
-    let Ok(topo) = Topo::new(2, cycles, 100, 512, links) else {
+    let links = vec![in alloc; Link { from: 0, to: 1 }]?;
+    let Ok(topo) = Topo::new(2, 500, 100, 512, links) else {
         return Err(Failed);
     };
-    let first = Program::new(alloc, flash_in(rt, first)?)?;
-    let second = Program::new(alloc, flash_in(rt, second)?)?;
+    let first = Program::new(alloc, flash_in(rt, "gates_a.hex")?)?;
+    let second = Program::new(alloc, flash_in(rt, "gates_b.hex")?)?;
     let text = ScenarioText {
         topo,
         images: Vec::new(alloc),
@@ -47,12 +42,6 @@ fn two_nodes<R: Files + AllocGlobal>(
         window: (0, 0),
     };
     Ok(Scenario::new(text, vec![in alloc; first, second]?))
-}
-
-// The network of gates.toml: node 1 hears node 0, both send and sample.
-fn two_rings<R: Files + AllocGlobal>(rt: &R) -> Result<Scenario, Failed> {
-    let links = vec![in rt.alloc(); Link { from: 0, to: 1 }]?;
-    two_nodes(rt, "gates_a.hex", "gates_b.hex", 500, links)
 }
 
 /// Writes the trace of the network of gates.toml, whose rows `run_threads` gives.
@@ -64,22 +53,6 @@ pub fn write_rows<R: Threads + Wait + Files + AllocGlobal + Sync, G: Gate + Sync
     let scenario = two_rings(rt)?;
     let rows = run_threads(rt, rt.alloc(), &scenario, gate)?;
     Ok(trace_writer::write(rows.as_slice(), out)?)
-}
-
-/// Writes the cycles at which the spans end of a run of two nodes with this image, which do not hear each other.
-pub fn write_floors<R: Threads + Wait + Files + AllocGlobal + Sync, O: Sink>(
-    rt: &R,
-    image: &str,
-    cycles: u64,
-    out: &mut O,
-) -> Result<(), Failed> {
-    let scenario = two_nodes(rt, image, image, cycles, Vec::new(rt.alloc()))?;
-    let mut run = ThreadRun::new(rt.alloc(), &scenario)?;
-    while !run.done() {
-        let _ = run.epoch(rt, &scenario, &OpenGate)?;
-        write_number("floor", run.floor(), out)?;
-    }
-    Ok(())
 }
 
 // An environment with these words, the program's name among them, and no variable.
@@ -162,11 +135,10 @@ pub fn write_call<R: Threads + Wait + Files + AllocGlobal + Sync, G: Gate + Sync
 pub fn write_end<R: Threads + Wait + Files + AllocGlobal + Sync, G: Gate + Sync, O: Sink>(
     rt: &R,
     words: &[&str],
-    fails: Option<u64>,
     gate: &G,
     out: &mut O,
 ) -> Result<(), Failed> {
-    let ended = call(rt, words, fails, gate)?;
+    let ended = call(rt, words, None, gate)?;
     write_number("status", u64::from(ended.status), out)?;
     write_number("bytes", ended.out.taken().len() as u64, out)?;
     Ok(write_all(out, ended.err.taken())?)

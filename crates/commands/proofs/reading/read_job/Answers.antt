@@ -15,6 +15,7 @@ use Rattle.commands.specs.Plan.{cut_on_plan, cut_plan, look_plan, network_plan, 
 use Rattle.commands.specs.Sample.{sample_line}
 use Rattle.commands.specs.Texts.{head_on_text, head_text, look_text, save_text, sweep_text, watch_on_text, watch_sweep_text, watch_text}
 use Rattle.commands.proofs.Networks.{network_ready, ready}
+use Rattle.commands.proofs.Placed.{same_span}
 use Rattle.commands.proofs.States.{resume_ready, resume_stopped}
 use Rattle.commands.proofs.reading.read_job.Goals as goal
 
@@ -227,7 +228,7 @@ pub returns-in_ok-network-in-Watch-clause-read : goal.returns-in_ok-network-in-W
 unfolding plan_of output
 returns-in_ok-network-in-Watch-clause-read g c =
     let read = c.in_ok-network-in-Watch.ensures.ok in
-    rw c.in-Watch.is (ready _ (watch_plan c.in-Watch.file.now c.in-Watch.to c.in-Watch.places.now) (λ it. watch_text it.0 it.1 c.in-Watch.from c.in-Watch.to) (c.in_ok-network-in-Watch.network, c.in_ok-network-in-Watch.watch.places.items) _ _ _ _ _ read.reached (ap (λ (p : ℕ × ℕ). watch_text it.0 it.1 p.0 p.1) (sym c.in_ok-network-in-Watch.ensures.span)) read.same read.silent c.in_ok-network-in-Watch.ensures.fit)
+    rw c.in-Watch.is (ready _ (watch_plan c.in-Watch.file.now c.in-Watch.to c.in-Watch.places.now) (λ it. watch_text it.0 it.1 c.in-Watch.from c.in-Watch.to) (c.in_ok-network-in-Watch.network, c.in_ok-network-in-Watch.watch.places.items) _ _ _ _ _ read.reached (same_span (λ a b. watch_text c.in_ok-network-in-Watch.network c.in_ok-network-in-Watch.watch.places.items a b) c.in_ok-network-in-Watch.watch.from c.in_ok-network-in-Watch.watch.to c.in-Watch.from c.in-Watch.to c.in_ok-network-in-Watch.ensures.span) read.same read.silent c.in_ok-network-in-Watch.ensures.fit)
 
 pub returns-in_err-network-in-Watch-clause-read : goal.returns-in_err-network-in-Watch-clause-read
 unfolding plan_of output
@@ -239,7 +240,7 @@ pub returns-in_ok-network-in-WatchOn-clause-read : goal.returns-in_ok-network-in
 unfolding plan_of output
 returns-in_ok-network-in-WatchOn-clause-read g c =
     let read = c.in_ok-network-in-WatchOn.ensures.ok in
-    rw c.in-WatchOn.is (ready _ (watch_on_plan c.in-WatchOn.file.now c.in-WatchOn.from c.in-WatchOn.to c.in-WatchOn.places.now c.in-WatchOn.state.now) (λ it. watch_on_text it.0.0 it.1 it.0.1 c.in-WatchOn.from c.in-WatchOn.to) ((c.in_ok-network-in-WatchOn.network, c.in_ok-network-in-WatchOn.watch.places.items), c.in_ok-network-in-WatchOn.state) _ _ _ _ _ read.reached (ap (λ (p : ℕ × ℕ). watch_on_text it.0.0 it.1 it.0.1 p.0 p.1) (sym c.in_ok-network-in-WatchOn.ensures.span)) read.same read.silent c.in_ok-network-in-WatchOn.ensures.fit)
+    rw c.in-WatchOn.is (ready _ (watch_on_plan c.in-WatchOn.file.now c.in-WatchOn.from c.in-WatchOn.to c.in-WatchOn.places.now c.in-WatchOn.state.now) (λ it. watch_on_text it.0.0 it.1 it.0.1 c.in-WatchOn.from c.in-WatchOn.to) ((c.in_ok-network-in-WatchOn.network, c.in_ok-network-in-WatchOn.watch.places.items), c.in_ok-network-in-WatchOn.state) _ _ _ _ _ read.reached (same_span (λ a b. watch_on_text c.in_ok-network-in-WatchOn.network c.in_ok-network-in-WatchOn.state c.in_ok-network-in-WatchOn.watch.places.items a b) c.in_ok-network-in-WatchOn.watch.from c.in_ok-network-in-WatchOn.watch.to c.in-WatchOn.from c.in-WatchOn.to c.in_ok-network-in-WatchOn.ensures.span) read.same read.silent c.in_ok-network-in-WatchOn.ensures.fit)
 
 pub returns-in_err-network-in-WatchOn-clause-read : goal.returns-in_err-network-in-WatchOn-clause-read
 unfolding plan_of output
@@ -251,7 +252,7 @@ pub returns-in_ok-network-in-WatchSweep-clause-read : goal.returns-in_ok-network
 unfolding plan_of output
 returns-in_ok-network-in-WatchSweep-clause-read g c =
     let read = c.in_ok-network-in-WatchSweep.ensures.ok in
-    rw c.in-WatchSweep.is (ready _ (watch_sweep_plan c.in-WatchSweep.file.now c.in-WatchSweep.from c.in-WatchSweep.to c.in-WatchSweep.places.now c.in-WatchSweep.state.now c.in-WatchSweep.moves.now) (λ it. watch_sweep_text it.0.0.0 it.0.1 it.1 it.0.0.1 c.in-WatchSweep.from c.in-WatchSweep.to) (((c.in_ok-network-in-WatchSweep.network, c.in_ok-network-in-WatchSweep.watch.places.items), c.in_ok-network-in-WatchSweep.state), c.in_ok-network-in-WatchSweep.moves.items) _ _ _ _ _ read.reached (ap (λ (p : ℕ × ℕ). watch_sweep_text it.0.0.0 it.0.1 it.1 it.0.0.1 p.0 p.1) (sym c.in_ok-network-in-WatchSweep.ensures.span)) read.same read.silent c.in_ok-network-in-WatchSweep.ensures.fit)
+    rw c.in-WatchSweep.is (ready _ (watch_sweep_plan c.in-WatchSweep.file.now c.in-WatchSweep.from c.in-WatchSweep.to c.in-WatchSweep.places.now c.in-WatchSweep.state.now c.in-WatchSweep.moves.now) (λ it. watch_sweep_text it.0.0.0 it.0.1 it.1 it.0.0.1 c.in-WatchSweep.from c.in-WatchSweep.to) (((c.in_ok-network-in-WatchSweep.network, c.in_ok-network-in-WatchSweep.watch.places.items), c.in_ok-network-in-WatchSweep.state), c.in_ok-network-in-WatchSweep.moves.items) _ _ _ _ _ read.reached (same_span (λ a b. watch_sweep_text c.in_ok-network-in-WatchSweep.network c.in_ok-network-in-WatchSweep.state c.in_ok-network-in-WatchSweep.moves.items c.in_ok-network-in-WatchSweep.watch.places.items a b) c.in_ok-network-in-WatchSweep.watch.from c.in_ok-network-in-WatchSweep.watch.to c.in-WatchSweep.from c.in-WatchSweep.to c.in_ok-network-in-WatchSweep.ensures.span) read.same read.silent c.in_ok-network-in-WatchSweep.ensures.fit)
 
 pub returns-in_err-network-in-WatchSweep-clause-read : goal.returns-in_err-network-in-WatchSweep-clause-read
 unfolding plan_of output

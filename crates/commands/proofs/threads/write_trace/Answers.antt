@@ -1,4 +1,4 @@
-use Rattle.std.proofs.Common.{◌≡◌, ℕ, ◌+◌, ◌*◌, ◌≤◌, min, List, refl, ap, ◌∙◌, subst, arith}
+use Rattle.std.proofs.Common.{◌≡◌, ℕ, ◌+◌, ◌≤◌, min, List, refl, ap, ◌∙◌, subst, arith}
 use Rattle.world_core.specs.Kept.{epoch}
 use Rattle.sim_io.specs.Outside.{Rose, TookFront, extended}
 use Rattle.node_core.specs.declared.row.Row.{Row}
@@ -28,8 +28,7 @@ returns-in_default-epoch g c =
 
 pub returns-in-Err : goal.returns-in-Err
 returns-in-Err g c =
-    let after = c.in-Ok-epoch.ensures.after in
-    let end : c.epoch.new.self.floor ≡ min (c.loop-run.run.floor + after.count * epoch) c.loop-run.run.scenario.topo.limit = ap (λ (r : RunAt). r.floor) after.at in
+    let end : c.epoch.new.self.floor ≡ min (c.loop-run.run.floor + epoch) c.loop-run.run.scenario.topo.limit = ap (λ (r : RunAt). r.floor) c.in-Ok-epoch.ensures.after in
     let most : c.epoch.new.self.floor ≤ c.loop-run.run.scenario.topo.limit = omega arith in
     let within : c.epoch.new.self.floor ≤ c.args.network.now.topo.limit = subst (λ (s : ScenarioOf). c.epoch.new.self.floor ≤ s.topo.limit) c.loop-run.invariant.same most in
     let front : TookFront (g.O.Sink.taken c.loop-run.out) (rows_text c.in-Ok-epoch.rows.items) (g.O.Sink.taken c.write.new.sink) =
@@ -41,7 +40,7 @@ returns-in-Err g c =
 
 pub loop-run-preserved : goal.loop-run-preserved
 loop-run-preserved g c =
-    let after = c.in-Ok-epoch.ensures.after.at in
+    let after = c.in-Ok-epoch.ensures.after in
     let took : g.O.Sink.taken c.write.new.sink ≡ extended (g.O.Sink.taken c.loop-run.out) (rows_text c.in-Ok-epoch.rows.items) =
     c.in-Ok-write.ensures.taken ∙ ap (λ (l : List Row). extended (g.O.Sink.taken c.loop-run.out) (rows_text l)) c.as_slice.ensures.value in
     record {

@@ -24,7 +24,7 @@ returns-in-Ok-read_places-clause-ok g c =
 
 pub returns-in-Ok-read_places-clause-fit : goal.returns-in-Ok-read_places-clause-fit
 returns-in-Ok-read_places-clause-fit g c = record {
-  rises = c.requires;
+  rises = c.requires.rises;
   within = c.in-Ok.ensures.within;
   spots = spots_are c.nodes-nodes.result c.in-Ok-read_places.places.items c.in-Ok-read_places.ensures.known;
 }

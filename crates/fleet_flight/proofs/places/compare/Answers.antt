@@ -1,6 +1,9 @@
-use Rattle.std.proofs.Common.{ℕ, ◌∙◌, arith, length-set}
+use Rattle.std.proofs.Common.{ℕ, List, length, ◌∙◌, subst, arith, length-set}
 use Rattle.std.proofs.lemmas.List.{get_or_default}
+use Rattle.node_places.specs.declared.Place.{Place}
+use Rattle.fleet_flight.specs.Shadows.{AreQuiet}
 use Rattle.fleet_flight.proofs.Following.{byte_done, byte_left, one_place}
+use Rattle.fleet_flight.proofs.Quiet.{quiet_seen}
 use Rattle.fleet_flight.proofs.places.compare.Goals as goal
 
 pub loop-k-preserved : goal.loop-k-preserved
@@ -18,3 +21,9 @@ loop-k-preserved c =
       done = byte_done ps u c.loop-k.last.items k x (omega arith) c.in_ok-last.ensures.byte i.done;
       left = byte_left c.loop-k.last.items c.args.last.now.items k x i.left;
     }
+
+pub returns-then-are_quiet-clause-seen : goal.returns-then-are_quiet-clause-seen
+returns-then-are_quiet-clause-seen c =
+    let ps : List Place = c.args.places.now in
+    let quiet = subst (λ (xs : List ℕ). AreQuiet (length ps) ps xs c.args.begun c.args.node.now.state) c.deref.ensures.value (c.are_quiet.ensures c.if-are_quiet.true) in
+    quiet_seen ps c.args.last.now.items c.args.begun c.args.node.now.state c.args.cycle c.args.changes.now.items quiet

@@ -13,11 +13,11 @@ use Rattle.fleet_flight.proofs.shadow.step.Goals as goal
 pub returns-clause-goes : goal.returns-clause-goes
 returns-clause-goes c =
     let v : Shadow = c.args.shadow.now in
-    let w : Shadow = record { node = c.take_rows.new.self; number = v.number; places = v.places; last = c.compare.new.last } in
-    let left = ap (λ (z : Timed NodeState Row). z.state) c.take_rows.ensures.left in
+    let w : Shadow = record { node = c.forget_rows.new.node; number = v.number; places = v.places; last = c.compare.new.last } in
+    let left = ap (λ (z : Timed NodeState Row). z.state) c.forget_rows.ensures in
     let seen = c.in_ok-compare.ensures.seen
-    ∙ ap (λ (l : List Place). c.args.changes.now.items ++ seen_of_all l v.last.items c.begun-begun.result c.cycle-cycle.result c.take_rows.new.self.state) c.deref.ensures.value
+    ∙ ap (λ (l : List Place). c.args.changes.now.items ++ seen_of_all l v.last.items c.begun-begun.result c.cycle-cycle.result c.forget_rows.new.node.state) c.deref.ensures.value
     ∙ ap (λ (l : List Change). c.args.changes.now.items ++ l)
-    (seen_all v.places.items v.last.items c.begun-begun.result c.cycle-cycle.result v.node.state c.take_rows.new.self.state c.requires.shadow.bytes c.begun-begun.ensures) in
+    (seen_all v.places.items v.last.items c.begun-begun.result c.cycle-cycle.result v.node.state c.forget_rows.new.node.state c.requires.shadow.bytes c.begun-begun.ensures) in
     goes_one (ear_of c.args.topo.now c.args.log.now.sends v.number) v w c.args.changes.now.items c.compare.new.changes.items (left ∙ c.in_ok-one_cycle.ensures.state)
-    (seen ∙ ap (λ (t : ℕ). c.args.changes.now.items ++ seen_by v.places.items t v.node.state c.take_rows.new.self.state) c.cycle-cycle.ensures) refl refl
+    (seen ∙ ap (λ (t : ℕ). c.args.changes.now.items ++ seen_by v.places.items t v.node.state c.forget_rows.new.node.state) c.cycle-cycle.ensures) refl refl

@@ -1,4 +1,4 @@
-use Rattle.std.proofs.Common.{◌≡◌, ℕ, ◌+◌, ◌*◌, ◌++◌, Option, IfSome, min, refl, sym, subst, ap, ◌∙◌, arith}
+use Rattle.std.proofs.Common.{◌≡◌, ℕ, ◌+◌, ◌++◌, Option, IfSome, min, refl, sym, subst, ap, ◌∙◌, arith}
 use Rattle.world_core.specs.Kept.{epoch}
 use Rattle.node_runner.specs.Scenario.{ScenarioOf, fleet_of}
 use Rattle.node_runner.specs.Run.{RunAt}
@@ -12,12 +12,11 @@ invariant_of-self-2 g c =
     let i = c.self.inside in
     let sc : ScenarioOf = c.args.scenario.now in
     let same : sc ≡ i.scenario.value = c.requires.same ∙ ap (λ (r : RunAt). r.scenario) (sym c.self.view_is) in
-    let e : c.min-end.result ≡ min (i.floor + i.span * epoch) i.limit = c.min-end.ensures in
+    let e : c.min-end.result ≡ min (i.floor + epoch) i.limit = c.min-end.ensures in
     record {
       scenario = c.self.invariant.scenario;
       limit = c.self.invariant.limit;
       within = omega arith;
-      next = c.next_span-self-inside.ensures;
       tied = subst (λ (s : ScenarioOf). IsTied s c.min-end.result c.min-end.result c.in_ok-passed.passed.parts) same c.in_ok-passed.ensures.tied;
     }
 
@@ -26,7 +25,6 @@ invariant_of-self g c = record {
   scenario = c.self.invariant.scenario;
   limit = c.self.invariant.limit;
   within = c.self.invariant.within;
-  next = c.self.invariant.next;
   tied = subst (λ (o : Option Parts). IfSome o (IsTied c.self.inside.scenario.value c.self.inside.floor c.self.inside.floor)) (sym c.take.ensures.after) tt;
 }
 
@@ -37,8 +35,7 @@ through-requires-clause-epoch g c κs within =
     let same : sc ≡ i.scenario.value = c.requires.same ∙ ap (λ (r : RunAt). r.scenario) (sym c.self.view_is) in
     let lim : i.limit ≡ sc.topo.limit = c.self.invariant.limit ∙ ap (λ (s : ScenarioOf). s.topo.limit) (sym same) in
     let below = c.self.invariant.within in
-    let most = c.self.invariant.next.most in
-    let e : c.min-end.result ≡ min (i.floor + i.span * epoch) i.limit = c.min-end.ensures in
+    let e : c.min-end.result ≡ min (i.floor + epoch) i.limit = c.min-end.ensures in
     record { sound = c.lawful_topo-lawful.ensures.sound; world = refl; rises = omega arith; span = omega arith; within = omega arith }
 
 pub returns-clause-rows : goal.returns-clause-rows
@@ -52,9 +49,5 @@ pub returns-clause-after : goal.returns-clause-after
 returns-clause-after g c =
     let view = c.self.view_is in
     let limit = c.self.invariant.limit ∙ ap (λ (r : RunAt). r.scenario.topo.limit) view in
-    let end = c.min-end.ensures ∙ (λ j. min (ap (λ (r : RunAt). r.floor) view j + c.self.inside.span * epoch) (limit j)) in
-    record {
-      count = c.self.inside.span;
-      span = c.self.invariant.next;
-      at = λ j. record { scenario = ap (λ (r : RunAt). r.scenario) view j; floor = end j; failed = sym c.requires.sound j };
-    }
+    let end = c.min-end.ensures ∙ (λ j. min (ap (λ (r : RunAt). r.floor) view j + epoch) (limit j)) in
+    λ j. record { scenario = ap (λ (r : RunAt). r.scenario) view j; floor = end j; failed = sym c.requires.sound j }

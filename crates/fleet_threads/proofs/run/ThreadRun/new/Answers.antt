@@ -10,11 +10,10 @@ pub invariant_of-result : goal.invariant_of-result
 invariant_of-result c =
     let sc : ScenarioOf = c.args.scenario.now in
     let first : Parts = record { clocks = c.in-Ok.clocks; air = c.in-Ok.air; members = c.add_members.new.members } in
-    subst (λ (s : ScenarioOf). IsRun s 0 c.limit-limit.result 1 (Some first)) (sym c.of.ensures)
+    subst (λ (s : ScenarioOf). IsRun s 0 c.limit-limit.result (Some first)) (sym c.of.ensures)
     (record {
       scenario = c.lawful_topo.ensures.sound;
       limit = c.limit-limit.ensures.value ∙ ap (λ (t : Topology). t.limit) c.lawful_topo.ensures.value;
       within = omega arith;
-      next = record { least = omega arith; most = omega arith };
       tied = first_tied sc c.in-Ok.clocks.table c.in-Ok.airs.items c.add_members.new.members.items c.lawful_topo.ensures.sound c.in-Ok.ensures.nodes c.in_ok-add_members.ensures.airs c.in_ok-add_members.ensures.first first refl refl c.in-Ok.ensures.world c.in-Ok.ensures.record;
     })

@@ -3,7 +3,8 @@ use Rattle.world_core.specs.Sends.{IsSendNumber}
 use Rattle.world_core.specs.Posted.{sent_of}
 use Rattle.world_core.proofs.Records.{in_nodes, record_after}
 use Rattle.neighbour_sync.specs.declared.record.Air.TheInside.{Inside}
-use Rattle.neighbour_sync.specs.Record.{longest_span, AirRecord}
+use Rattle.world_core.specs.Kept.{epoch}
+use Rattle.neighbour_sync.specs.Record.{AirRecord}
 use Rattle.neighbour_sync.specs.Held.{record_of}
 use Rattle.neighbour_sync.proofs.Keeps.{room_left, held_posted}
 use Rattle.neighbour_sync.proofs.record.Air.post.Goals as goal
@@ -39,7 +40,7 @@ push-requires-clause-room g c =
     let x = c.args.send in
     let here : c.args.number ≡ sent_of r.sent x.node = omega (arith, c.sent-count.ensures, c.if-number-count.false, c.if-count-number.false) in
     let next : IsSendNumber r.world (sent_of r.sent x.node) x = subst (λ (n : ℕ). IsSendNumber r.world n x) here (subst (λ (b : AirRecord). IsSendNumber b.world c.args.number x) (sym c.self.view_is) c.requires.number) in
-    let early : x.cycle < r.floor + longest_span = subst (λ (b : AirRecord). x.cycle < b.floor + longest_span) (sym c.self.view_is) c.requires.early in
+    let early : x.cycle < r.floor + epoch = subst (λ (b : AirRecord). x.cycle < b.floor + epoch) (sym c.self.view_is) c.requires.early in
     let left = room_left r x c.self.invariant.sound next early in
     let room = c.self.invariant.room in
     omega arith
@@ -57,5 +58,5 @@ invariant_of-self g c =
     let x = c.args.send in
     let here : c.args.number ≡ sent_of r.sent x.node = omega (arith, c.sent-count.ensures, c.if-number-count.false, c.if-count-number.false) in
     let next : IsSendNumber r.world (sent_of r.sent x.node) x = subst (λ (n : ℕ). IsSendNumber r.world n x) here (subst (λ (b : AirRecord). IsSendNumber b.world c.args.number x) (sym c.self.view_is) c.requires.number) in
-    let early : x.cycle < r.floor + longest_span = subst (λ (b : AirRecord). x.cycle < b.floor + longest_span) (sym c.self.view_is) c.requires.early in
+    let early : x.cycle < r.floor + epoch = subst (λ (b : AirRecord). x.cycle < b.floor + epoch) (sym c.self.view_is) c.requires.early in
     held_posted f.seat c.store_sent.new.seat f.topo f.log c.push.new.self f.floor f.samples.items x c.self.invariant next early c.store_sent.ensures c.push.ensures
