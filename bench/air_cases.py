@@ -8,8 +8,8 @@ drawn_taken.txt, which are of air_facts, and drawn_record.txt, which is of recor
 same. For each record of drawn_record.txt, drawn_taken.txt has the same steps up to its first cut, so that the record
 and the core without a record are asked the same.
 
-It is the rules of docs/AIR.md once more, written plainly and slowly. What is heard, needed, consistent or allowed is
-each asked over all cycles or all sends that there are. It shares nothing with the crates that it tests.
+It is the rules of docs/AIR.md once more, written plainly and slowly. Whether something is heard, needed, consistent
+or allowed is asked over all cycles or all sends that there are. It shares nothing with the crates that it tests.
 """
 import random
 import sys
