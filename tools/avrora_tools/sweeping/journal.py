@@ -1,7 +1,7 @@
 """What came of the runs of a sweep, kept in a file, so that one that was cut goes on where it was.
 
-The first line says of which sweep it is, by a hash of all that decides a run; each other line is a move and what is wrong
-with its run. A line has a seal of this user: a file that came from elsewhere decides nothing.
+The first line says of which sweep it is, by a hash of all that decides a run; each other line is a move and what is
+wrong with its run. A line has a seal of this user: a file that came from elsewhere decides nothing.
 """
 import hashlib
 import json
