@@ -1,7 +1,7 @@
 """When a node executes an instruction: the cycles in which it begins.
 
-The program's `watch` tells them in one run. A program without it is asked by `monitor` whether and how often, in halves of
-the span, and then for the rows of the windows in which it does."""
+The program's `watch` tells them in one run. A program without it is asked by `monitor` whether and how often, in halves
+of the span, and then for the rows of the windows in which it does."""
 import os
 import re
 import tempfile

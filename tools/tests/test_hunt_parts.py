@@ -1,4 +1,5 @@
-"""The parts of a hunt, by hand: what is changed in a scenario, what a run is judged by, how a failing scenario becomes small."""
+"""The parts of a hunt, by hand: what is changed in a scenario, what a run is judged by, how a failing scenario becomes
+small."""
 import json
 import random
 

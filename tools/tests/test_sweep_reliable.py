@@ -1,5 +1,5 @@
-"""Sweeps that one can rely on: a check that is wrong is told before anything runs, one that is cut tells what it ran and goes on
-where it was, and where all fails it is not called a race. By the program that AVRORA_PROGRAM names."""
+"""Sweeps that one can rely on: a check that is wrong is told before anything runs, one that is cut tells what it ran
+and goes on where it was, and where all fails it is not called a race. By the program that AVRORA_PROGRAM names."""
 import json
 import os
 import random

@@ -1,9 +1,10 @@
-"""Looks for what never happens in the lab: varies a scenario in the ways in which the field does, for so many minutes."""
+"""Looks for what never happens in the lab: varies a scenario in the ways in which the field does, for so many
+minutes."""
 import argparse
 import os
 
 from avrora_tools import cases, cli, files, programs, scenarios, shipping
-from avrora_tools.commands.sweep import document_of, folder_of
+from avrora_tools.commands.sweep import document_of, folder_of, processors
 from avrora_tools.errors import BadInput, BadWords, Status
 from avrora_tools.hunting import kinds, telling
 from avrora_tools.hunting.causes import Lines
@@ -24,8 +25,8 @@ SUMMARY = "varies a scenario in all ways for some minutes, and tells what breaks
 
 NAMES = (*kinds.NAMES, ARRIVALS)
 
-DESCRIPTION = """Varies a scenario for some minutes and tells what breaks it, by cause, each with the smallest scenario that
-still fails. In turns, and more of what finds something:
+DESCRIPTION = """Varies a scenario for some minutes and tells what breaks it, by cause, each with the smallest scenario
+that still fails. In turns, and more of what finds something:
   starts     when nodes start: at once, staggered, drawn
   cuts       each packet of each link lost; a part of it; what is sent again too; an exchange both ways
   inputs     bytes that arrive earlier, later and nearer to each other; with a check of yours twice or not at all
@@ -72,7 +73,8 @@ def run(arguments: argparse.Namespace) -> int:
             raise BadInput(f"the scenario fails as it is, with nothing varied: {hunt.unmoved_failure.text}")
         print_plan(hunt, corpus)
         corpus.clear()
-        hunt.run(corpus.rounds_of(arguments.seed), corpus.failed, arguments.rounds, lambda text: print(text, flush=True))
+        first = corpus.rounds_of(arguments.seed)
+        hunt.run(first, corpus.failed, arguments.rounds, lambda text: print(text, flush=True))
         telling.print_hunt(hunt, corpus, arguments.scenario, arguments.elf)
         corpus.write(arguments.seed, hunt.rounds, hunt.failing)
     return Status.NOT_MET if hunt.findings else limit.status(Status.GOOD)
@@ -80,8 +82,9 @@ def run(arguments: argparse.Namespace) -> int:
 
 def print_plan(hunt: Hunt, corpus: Corpus) -> None:
     said = len(hunt.facts.bursts)
-    print(f"{len(hunt.document['node'])} nodes, {said:,} packets said where nothing varies; deadline {hunt.until:,}, ", end="")
-    print(f"runs end at {int(hunt.document['cycles']):,}; {corpus.folder} has {len(corpus.failed):,} trials", flush=True)
+    nodes, cycles = len(hunt.document["node"]), int(hunt.document["cycles"])
+    print(f"{nodes} nodes, {said:,} packets said where nothing varies; deadline {hunt.until:,}, ", end="")
+    print(f"runs end at {cycles:,}; {corpus.folder} has {len(corpus.failed):,} trials", flush=True)
 
 
 def prepared_document(arguments: argparse.Namespace) -> tuple[Document, int]:
@@ -151,7 +154,7 @@ def configure(parser: argparse.ArgumentParser) -> None:
     parser.add_argument("--only", metavar="KINDS", help=f"these kinds alone, of {','.join(NAMES)}")
     parser.add_argument("--corpus", metavar="FOLDER", help="where scenarios and what failed are kept")
     parser.add_argument(
-        "--jobs", type=cli.positive, default=len(os.sched_getaffinity(0)), metavar="N", help="runs at a time (%(default)s)"
+        "--jobs", type=cli.positive, default=processors(), metavar="N", help="runs at a time (%(default)s)"
     )
     parser.add_argument(
         "--scheduler", metavar="ADDRESS", help="run on the workers of a scheduler of dask, as tcp://HOST:8786"

@@ -149,7 +149,9 @@ def prepared(arguments: argparse.Namespace, limit: Limit | None = None) -> Itera
         check = check_of(arguments, tails, scenario, order)
         check_unmoved(arguments, tails, scenario, check)
         program, sharing = program_of(arguments, simulator, document, moved[-1])
-        journal = stack.enter_context(contextlib.closing(journal_of(arguments, tails, order))) if arguments.resume else None
+        journal = journal_of(arguments, tails, order) if arguments.resume else None
+        if journal:
+            stack.enter_context(contextlib.closing(journal))
         sweep = Sweep(tails, scenario, check, program, sharing, limit, journal)
         yield sweep
 
@@ -241,8 +243,8 @@ def check_of(arguments: argparse.Namespace, tails: ProcessTails, scenario: Moved
 def check_unmoved(
     arguments: argparse.Namespace, tails: ProcessTails, scenario: MovedScenario, check: Check
 ) -> None:
-    """Checks the run that is not moved, so that a check that fails anyway, or cannot work, is told at once. Where that run
-    cannot be made the first move shows at least that the check works."""
+    """Checks the run that is not moved, so that a check that fails anyway, or cannot work, is told at once. Where that
+    run cannot be made the first move shows at least that the check works."""
     if not isinstance(check, (CaseCheck, PredicateCheck, AlwaysCheck)):
         return  # that run is what it compares with
     try:
@@ -256,8 +258,8 @@ def check_unmoved(
         check = replace(check, head=b"".join(head))
     if wrong := check.failure(move, rows):
         raise BadInput(
-            f"the run that is not moved fails too: {wrong}. Either the check is wrong for this scenario, or the deadline "
-            f"in cycle {scenario.until:,} (--until) is too near; --base VALUE names another run to begin with"
+            f"the run that is not moved fails too: {wrong}. Either the check is wrong for this scenario, or the "
+            f"deadline in cycle {scenario.until:,} (--until) is too near; --base VALUE names another run to begin with"
         )
 
 
@@ -271,7 +273,7 @@ def journal_of(arguments: argparse.Namespace, tails: ProcessTails, order: list[i
     named = {"check": arguments.check, "expect": arguments.expect, "elf": arguments.always and arguments.elf}
     parts: dict[str, object] = {
         "scenario": scenario.document,
-        "images": [(name, digest({name: files.read_bytes(os.path.join(tails.simulator.folder, name))})) for name in images],
+        "images": [digest({name: files.read_bytes(os.path.join(tails.simulator.folder, name))}) for name in images],
         "moved": [scenario.moved, order, scenario.until, scenario.begins],
         "state": tails.state or b"",
         "simulator": shipping.program(arguments.avrora),

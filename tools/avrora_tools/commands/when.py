@@ -9,10 +9,10 @@ from avrora_tools.sweeping.simulation import Simulator
 
 SUMMARY = "in which cycles a node executes a function, a line or an address"
 
-DESCRIPTION = """Tells in which cycles node NODE of a scenario executes PLACE: a function (where it is entered), a source
-line FILE:LINE (where each piece of its code begins), or a word address of four digits, as traces have them. How often,
-between which cycles, and the cycles. So a span for `sweep`, `window` or `gdb --at` is found. A function that the compiler
-put into others has no name there: take FILE:LINE. Functions and lines want the ELF file of the node (-e).
+DESCRIPTION = """Tells in which cycles node NODE of a scenario executes PLACE: a function (where it is entered), a
+source line FILE:LINE (where each piece of its code begins), or a word address of four digits, as traces have them. How
+often, between which cycles, and the cycles. So a span for `sweep`, `window` or `gdb --at` is found. A function that the
+compiler put into others has no name there: take FILE:LINE. Functions and lines want the ELF file of the node (-e).
 
 Status 0: it is executed; 1: never; 2: there is no such place, or the words or the files are bad."""
 
@@ -27,7 +27,7 @@ def run(arguments: argparse.Namespace) -> int:
     end = arguments.end if arguments.end is not None else scenario.cycles
     if not arguments.first < end <= scenario.cycles:
         raise BadInput(
-            f"{arguments.first:,} to {end:,} is no span of cycles below the limit of {scenario.cycles:,} of the scenario"
+            f"{arguments.first:,} to {end:,} is no span of cycles below the scenario's limit of {scenario.cycles:,}"
         )
     words = [f"{arguments.node}={arguments.elf}"] if arguments.elf else []
     program = programs.Programs(words, scenario, arguments.force).of(arguments.node)

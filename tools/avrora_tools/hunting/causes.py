@@ -1,5 +1,5 @@
-"""What failed, grouped by cause, as far as the runs tell: what had to be varied, what is wrong, and which lines run that do
-not run where nothing varies."""
+"""What failed, grouped by cause, as far as the runs tell: what had to be varied, what is wrong, and which lines run
+that do not run where nothing varies."""
 import dataclasses
 import os
 import re
@@ -43,8 +43,8 @@ class Uneven:
 class Finding:
     """A cause: how often it was met and by which kinds of trials, the smallest scenario, and what is wrong there.
 
-    `lines` are run in the failing run and not in the right one, as FILE:LINE of the nodes' programs, and of `uneven` lines
-    one was run more often than the other there alone. Of a race `places` says where the arrival comes, `command`
+    `lines` are run in the failing run and not in the right one, as FILE:LINE of the nodes' programs, and of `uneven`
+    lines one was run more often than the other there alone. Of a race `places` says where the arrival comes, `command`
     sweeps it, and `opened` runs it."""
 
     look: Look
@@ -126,8 +126,8 @@ class Lines:
         return found
 
     def otherwise(self, scene: Scene) -> tuple[tuple[str, ...], tuple[Uneven, ...]]:
-        """The lines that are executed in the failing run alone; and pairs of lines that each node executes equally often
-        in the right run, and one does not in the failing run."""
+        """The lines that are executed in the failing run alone; and pairs of lines that each node executes equally
+        often in the right run, and one does not in the failing run."""
         failing, right = self.executed(scene.failing()), self.executed(scene.document)
         if not failing or not right:
             return (), ()
@@ -136,7 +136,8 @@ class Lines:
 
 
 def uneven(failing: Counts, right: Counts) -> Iterator[Uneven]:
-    """Lines that go together and come apart, those first that are executed seldom: a thing that is put and not taken."""
+    """Lines that go together and come apart, those first that are executed seldom: a thing that is put and not
+    taken."""
     together: dict[tuple[tuple[int, int], ...], list[str]] = {}
     for line, counts in right.items():
         together.setdefault(tuple(sorted(counts.items())), []).append(line)

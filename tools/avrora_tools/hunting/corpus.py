@@ -60,7 +60,8 @@ class Corpus:
         return os.path.join(self.folder, f"race-{number}.toml")
 
     def clear(self) -> None:
-        """Makes the folder, and removes the scenarios of an earlier hunt: they are written anew as far as they still fail."""
+        """Makes the folder, and removes the scenarios of an earlier hunt: they are written anew as far as they still
+        fail."""
         with Folder.named(self.folder, make=True) as folder:
             for name in folder.names():
                 if FOUND.fullmatch(name):

@@ -85,7 +85,8 @@ class Hunt:
         self.try_all(trials, by_name, tell)
         self.credit = Counter({name: credit - 1 for name, credit in self.credit.items() if credit > 1})
         if self.races and not self.limit.is_over():
-            for found in self.races.turn(random.Random(f"{self.seed} {self.rounds} {ARRIVALS}"), self.oracle, self.reference):
+            random_ = random.Random(f"{self.seed} {self.rounds} {ARRIVALS}")
+            for found in self.races.turn(random_, self.oracle, self.reference):
                 self.failed[ARRIVALS] += found.count
                 self.take_race(found, tell)
             self.tried[ARRIVALS] = self.races.runs
@@ -163,7 +164,8 @@ class Hunt:
             else:
                 found.scene = None
         self.findings.append(found)
-        tell(f"found after {self.runner.runs + (self.races.runs if self.races else 0):,} runs, by {ARRIVALS}: {found.places[0]}")
+        runs = self.runner.runs + (self.races.runs if self.races else 0)
+        tell(f"found after {runs:,} runs, by {ARRIVALS}: {found.places[0]}")
 
 
 def raw_look(finding: Finding, document: Document) -> Look:

@@ -1,7 +1,7 @@
 """What a hunt varies: each kind draws trials of its own, by a seed.
 
-A kind is told what came of each of its trials, and may draw what follows from that: a packet that was sent again because the
-first was cut can be cut too."""
+A kind is told what came of each of its trials, and may draw what follows from that: a packet that was sent again
+because the first was cut can be cut too."""
 import math
 import random
 from collections.abc import Sequence

@@ -1,8 +1,8 @@
 """Whether a run of a hunt is as it should be.
 
-Without a check of the user each node must write what it writes in the run that is not varied, in any order, sooner or later:
-what is due by `until` must have come by the scenario's end, and nothing may come by `until` that is not due by then. It must
-not stop, and where it sent to the end it must not fall silent."""
+Without a check of the user each node must write what it writes in the run that is not varied, in any order, sooner or
+later: what is due by `until` must have come by the scenario's end, and nothing may come by `until` that is not due by
+then. It must not stop, and where it sent to the end it must not fall silent."""
 import re
 from collections import Counter
 from collections.abc import Collection
@@ -20,8 +20,8 @@ QUIET_SHARE = 3  # a node is silent that sends nothing in the last third, where 
 
 @dataclass(frozen=True)
 class Failure:
-    """What is wrong with a run: of which class, at which node if one is known, in words; whether that node heard clashes that
-    it does not hear in the run that is not varied."""
+    """What is wrong with a run: of which class, at which node if one is known, in words; whether that node heard
+    clashes that it does not hear in the run that is not varied."""
 
     class_: str
     node: int | None
@@ -64,7 +64,8 @@ class Oracle:
         stopped, due = stops((output,)), stops((reference.output,))
         for node in sorted(stopped):
             if stopped[node] != due.get(node):
-                return Failure(STOPPED, node, f"node {node} stopped by {stopped[node]}, and not so where nothing varies")
+                text = f"node {node} stopped by {stopped[node]}, and not so where nothing varies"
+                return Failure(STOPPED, node, text)
         if self.user:
             wrong = self.user.failure((), output)
             return Failure(UNMET, None, wrong) if wrong else None
@@ -86,8 +87,8 @@ class Oracle:
         return None
 
     def fell_silent(self, reference: Reference, trial: Trial | None, output: bytes) -> Failure | None:
-        """A node that sends to the end where nothing varies, and not in this run. A link that is lost for good may silence
-        whom it joins."""
+        """A node that sends to the end where nothing varies, and not in this run. A link that is lost for good may
+        silence whom it joins."""
         concerned = {node for cut in (trial.cuts() if trial else []) for node in (cut.sender, cut.hearer)}
         begin = reference.cycles - reference.cycles // QUIET_SHARE
         before, now = last_sends(reference.output), last_sends(output)

@@ -1,5 +1,5 @@
-"""Sweeps arrivals of bytes where main and the handler of USART0 RX use the same things: where and when a node is there the
-simulator tells. Behind these places it sweeps drawn spans."""
+"""Sweeps arrivals of bytes where main and the handler of USART0 RX use the same things: where and when a node is there
+the simulator tells. Behind these places it sweeps drawn spans."""
 import dataclasses
 import random
 import shlex
@@ -89,8 +89,8 @@ class Races:
         self.is_wide = False
 
     def bytes_that_move(self) -> Iterator[InputByte]:
-        """Bytes behind the first of each node whose program is known; those of different images in turns. The last byte of
-        a node comes first: no other behind it hides what it does."""
+        """Bytes behind the first of each node whose program is known; those of different images in turns. The last byte
+        of a node comes first: no other behind it hides what it does."""
         by_image: dict[str, list[InputByte]] = {}
         for it in inputs_of(self.document):
             if self.programs and self.programs.of(it.node):
@@ -132,8 +132,8 @@ class Races:
             yield in_rounds(list(stretches(event, cycles)))[:MOST_VISITS]
 
     def room(self, script: Script) -> tuple[int, int]:
-        """Between which cycles a byte can come: behind the one before it, and before the next; the last one as long before
-        the deadline as runs go on behind it, so that its answer has that room twice."""
+        """Between which cycles a byte can come: behind the one before it, and before the next; the last one as long
+        before the deadline as runs go on behind it, so that its answer has that room twice."""
         is_last = script.index + 1 == len(script.bytes_)
         early = self.until - (int(self.document["cycles"]) - self.until)
         behind = max(early, script.nominal(script.index) + 1) if is_last else script.nominal(script.index + 1)

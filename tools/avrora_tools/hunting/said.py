@@ -18,7 +18,8 @@ class Burst:
 
 
 def bursts_of(output: bytes, byte_time: int) -> list[Burst]:
-    """All bursts of a run, in the order of their first bytes: between two of a node lies at least another byte's time."""
+    """All bursts of a run, in the order of their first bytes: between two of a node lies at least another byte's
+    time."""
     sends: dict[int, list[tuple[int, int]]] = defaultdict(list)
     for cycle, node, digits in SENT.findall(output):
         sends[int(node)].append((int(cycle), int(digits, 16)))

@@ -1,5 +1,5 @@
-"""Makes a failing scenario as small as it still fails in the same way: fewer changes, shorter cuts, fewer nodes, links and
-inputs, a shorter run. The scenario without the changes must be right each time."""
+"""Makes a failing scenario as small as it still fails in the same way: fewer changes, shorter cuts, fewer nodes, links
+and inputs, a shorter run. The scenario without the changes must be right each time."""
 import dataclasses
 import itertools
 from collections.abc import Callable, Iterator, Sequence

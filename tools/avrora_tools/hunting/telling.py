@@ -47,7 +47,8 @@ def print_tried(hunt: Hunt) -> None:
 def print_finding(hunt: Hunt, number: int, finding: Finding, scenario: str, elf: list[str]) -> None:
     kinds = ", ".join(f"{name} {count:,}" for name, count in finding.kinds.most_common())
     print(f"{number}. {finding.failure.class_}: {finding.failure.text}")
-    print(f"   met {finding.count:,} times ({kinds})" + (f"; {' '.join(finding.look[1:])}" if not finding.places else ""))
+    needs = f"; {', '.join(filter(None, finding.look[1:]))}" if not finding.places else ""
+    print(f"   met {finding.count:,} times ({kinds}){needs}")
     for text, _ in finding.texts.most_common(MOST_TEXTS):
         if text != finding.failure.text:
             print(f"   also: {text}")
@@ -57,7 +58,8 @@ def print_finding(hunt: Hunt, number: int, finding: Finding, scenario: str, elf:
         print_scene(hunt, finding.scene)
     if finding.lines:
         more = len(finding.lines) - MOST_LINES
-        print(f"   runs here alone: {joined(finding.lines[:MOST_LINES])}" + (f" and {more} lines more" if more > 0 else ""))
+        others = f" and {more} lines more" if more > 0 else ""
+        print(f"   runs here alone: {joined(finding.lines[:MOST_LINES])}{others}")
     for pair in finding.uneven:
         print(f"   {pair}")
     for command in commands(finding, scenario, elf):
@@ -75,7 +77,8 @@ def joined(lines: Iterable[str]) -> str:
 def print_scene(hunt: Hunt, scene: Scene) -> None:
     nodes, links, changes, cycles = scene.size()
     all_nodes, all_links = len(hunt.document["node"]), len(hunt.document.get("link", []))
-    print(f"   smallest: {nodes} nodes of {all_nodes}, {links} links of {all_links}, {cycles:,} cycles, deadline {scene.until:,}")
+    of_all = f"{nodes} nodes of {all_nodes}, {links} links of {all_links}"
+    print(f"   smallest: {of_all}, {cycles:,} cycles, deadline {scene.until:,}")
     for change in scene.trial.changes[:MOST_CHANGES]:
         print(f"     {change}")
     if changes > MOST_CHANGES:
@@ -86,7 +89,8 @@ def commands(finding: Finding, scenario: str, elf: list[str]) -> list[str]:
     """The lines of a shell that open a finding."""
     words = [word for it in elf for word in ("-e", it)]
     if finding.command:
-        found = [f"avrora-tools sweep {shlex.quote(scenario)} {finding.command} {shlex.join(words)}".rstrip(), finding.opened]
+        swept = f"avrora-tools sweep {shlex.quote(scenario)} {finding.command} {shlex.join(words)}"
+        found = [swept.rstrip(), finding.opened]
         if not finding.scene:
             return found
     else:
@@ -98,9 +102,11 @@ def commands(finding: Finding, scenario: str, elf: list[str]) -> list[str]:
     go = f"cd {shlex.quote(folder)} && "
     right = right_name(name)
     found.append(f"(cd {shlex.quote(folder)} && avrora run {name} >{name}.trace && avrora run {right} >{right}.trace)")
-    found.append(f"({go}avrora-tools timeline -s {name} -o {name}.html {name}.trace; avrora-tools diff {right}.trace {name}.trace)")
+    found.append(f"({go}avrora-tools timeline -s {name} -o {name}.html {name}.trace)")
+    found.append(f"({go}avrora-tools diff {right}.trace {name}.trace)")
     found.append(f"({go}avrora-tools gdb --port 4242 --at {at} {name})")
-    if (start := next((it for it in finding.scene.trial.changes if isinstance(it, Input)), None)) and not finding.command:
+    start = next((it for it in finding.scene.trial.changes if isinstance(it, Input)), None)
+    if start and not finding.command:
         span = f"{max(1, start.at - 500)}..{start.at + 500}"
         found.append(f"({go}avrora-tools sweep {name} --start {start.node}={span} --until {finding.scene.until})")
     return found
@@ -120,7 +126,8 @@ def right_name(name: str) -> str:
 def write_scene(path: str, scene: Scene, finding: Finding, folder: str) -> None:
     """Writes the failing scenario, and the right one beside it; images are named from where they are."""
     changes = "".join(f"# - {change}\n" for change in scene.trial.changes)
-    note = f"# {files.printable(finding.failure.text)}.\n# What is otherwise than in {os.path.basename(right_name(path))}:\n{changes}"
+    right_one = os.path.basename(right_name(path))
+    note = f"# {files.printable(finding.failure.text)}.\n# What is otherwise than in {right_one}:\n{changes}"
     place = os.path.dirname(path)
     files.write_whole(path, note + scenario_text(with_images(scene.failing(), folder, place)))
     right = "# The scenario beside it, in which nothing is varied and all is right.\n"
@@ -129,8 +136,8 @@ def write_scene(path: str, scene: Scene, finding: Finding, folder: str) -> None:
 
 def with_images(document: Document, folder: str, place: str) -> Document:
     """A scenario whose images are named from another folder."""
-    nodes = [{**node, "image": os.path.relpath(os.path.join(folder, node["image"]), place)} for node in document["node"]]
-    return {**document, "node": nodes}
+    paths = [os.path.relpath(os.path.join(folder, node["image"]), place) for node in document["node"]]
+    return {**document, "node": [{**node, "image": path} for node, path in zip(document["node"], paths)]}
 
 
 def not_covered(hunt: Hunt) -> list[str]:

@@ -33,8 +33,8 @@ class Place:
     asleep: bool = False
 
 
-# What an arrival meets, by names: the flag I, the last write of the receiver's register, and of each thing that handlers and
-# main share the last write.
+# What an arrival meets, by names: the flag I, the last write of the receiver's register, and of each thing that
+# handlers and main share the last write.
 Context = tuple[tuple[str, int], ...]
 
 FLAG, RECEIVER = "I", "RXEN"

@@ -1,7 +1,7 @@
 """What came of the runs of a sweep, kept in a file, so that one that was cut goes on where it was.
 
-The first line says of which sweep it is, by a hash of all that decides a run; each other line is a move and what is wrong
-with its run. A line has a seal of this user: a file that came from elsewhere decides nothing.
+The first line says of which sweep it is, by a hash of all that decides a run; each other line is a move and what is
+wrong with its run. A line has a seal of this user: a file that came from elsewhere decides nothing.
 """
 import hashlib
 import json
@@ -35,13 +35,20 @@ class Journal:
         self.known: dict[Move, Verdict] = {}
         try:
             self.file: IO[bytes] = os.fdopen(opened(path), "r+b")
-            lines = self.file.read().split(b"\n")
-            kept = self.read(lines)
-            self.file.truncate(kept)
-            if not kept:
-                self.write({"sweep": whose})
+            try:
+                self.begin()
+            except BaseException:
+                self.file.close()
+                raise
         except OSError as fault:
             raise CannotWork(f"{shown(path)}: {fault.strerror}") from None
+
+    def begin(self) -> None:
+        """Takes what is there, without a line that was cut; an empty file gets its first line."""
+        kept = self.read(self.file.read().split(b"\n"))
+        self.file.truncate(kept)
+        if not kept:
+            self.write({"sweep": self.whose})
 
     def read(self, lines: Sequence[bytes]) -> int:
         """Takes what stands in the file; how many of its bytes are whole lines."""

@@ -1,4 +1,5 @@
-"""What ends a long piece of work before it is through: its time, ^C, SIGTERM. And how far it is, told from time to time."""
+"""What ends a long piece of work before it is through: its time, ^C, SIGTERM. And how far it is, told from time to
+time."""
 import contextlib
 import os
 import signal

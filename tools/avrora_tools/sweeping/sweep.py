@@ -82,7 +82,7 @@ class Sweep:
         doubt = self.doubt() if isinstance(last, InputByte) else None
         maker = CellMaker(tails, scenario, state, doubt, sharing.written if sharing else None, self.goes_on_counting)
         self.cells = list(maker.cells())
-        self.counted_to = maker.counted_to  # the first cycle of the span whose classes are not known, where that was cut
+        self.counted_to = maker.counted_to  # the first cycle of the span without classes, where counting was cut
         self.doubts = list(maker.doubts)  # why each move is a class, where traces tell too little
         self.stores = sorted(maker.stores)
         self.between: Mapping[int, str] = sharing.between if sharing else {}
@@ -132,8 +132,8 @@ class Sweep:
         return bool(others)
 
     def failure(self, move: Move, place: int, output: bytes) -> str | None:
-        """What is wrong with a run, which is the one of this place among those that were asked for. Where others made it, it is
-        made here before it is told."""
+        """What is wrong with a run, which is the one of this place among those that were asked for. Where others made
+        it, it is made here before it is told."""
         wrong = self.check.failure(move, output)
         own = self.tails.made_here(place) if wrong else None
         if own is None:
@@ -228,8 +228,8 @@ class Sweep:
         return evidence.described(found, self.sharing) if found else None
 
     def things_in_use(self, finding: Finding) -> list[str]:
-        """What handlers write and main uses at the ends of the failing stretch; where that is nothing, what is shared and
-        used about its places."""
+        """What handlers write and main uses at the ends of the failing stretch; where that is nothing, what is shared
+        and used about its places."""
         assert self.sharing is not None
         at_ends = [self.sharing.watched.get(address) for address in finding.ends() if address is not None]
         found = dict.fromkeys(thing for thing in at_ends if thing in self.sharing.handed_over)

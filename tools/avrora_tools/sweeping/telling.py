@@ -71,8 +71,8 @@ def print_cost(sweep: Sweep, seconds_a_run: float, jobs: int) -> None:
     if expected >= LONG:
         print(
             "shorter: --seconds N ends in time and --resume FILE goes on from there; a span about one place "
-            "(`avrora-tools when` tells its cycles); --quick with -e is a first look; --per-place N; A..B/STEP; --until "
-            "nearer to the span",
+            "(`avrora-tools when` tells its cycles); --quick with -e is a first look; --per-place N; A..B/STEP; "
+            "--until nearer to the span",
             flush=True,
         )
 
@@ -90,7 +90,8 @@ def print_totals(sweep: Sweep, results: Results, options: Options) -> None:
     if sweep.limit.is_over():
         print(f"cut: {sweep.limit.reason()}")
     if results.all_fail:
-        print(f"the first {ALL_FAIL} runs all fail, and others far from them: the deadline (--until) or the check, no race")
+        told = "and others far from them: the deadline (--until) or the check, no race"
+        print(f"the first {ALL_FAIL} runs all fail, {told}")
     if missed := sweep.classes_not_run():
         print(f"{missed:,} of {len(sweep.cells):,} classes were not run")
     if options.quick and not results.failures:
