@@ -99,6 +99,9 @@ def made(name, count, workers):
 
 
 def main():
+    if sys.argv[1:2] in (["--help"], ["-h"]):
+        print(__doc__)
+        return 0
     count = int(sys.argv[1]) if len(sys.argv) > 1 else 100_000
     workers = int(sys.argv[2]) if len(sys.argv) > 2 else 4
     with concurrent.futures.ThreadPoolExecutor() as threads:

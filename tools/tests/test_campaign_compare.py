@@ -124,7 +124,7 @@ class Counts(unittest.TestCase):
             b"10 1 heard 1 AA 1\n11 1 serial 0D\n12 1 stop 0010 BREAK\n12 1 entry 2\n20 0 end 11 running\n"
         )
         for size in range(1, len(rows) + 1):
-            with mock.patch.object(runs, "BLOCK", size):
+            with mock.patch.object(outputs, "BLOCK", size):
                 self.assertEqual(outputs.looked_through(io.BytesIO(rows))[1], [1, 2, 1, 1, 1])
 
 

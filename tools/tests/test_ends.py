@@ -16,12 +16,14 @@ from support import CLOSED, DATA, TOP, run_tool
 USES = {
     "annotate": (["-s", "@relay.toml", "@relay.trace"], 0),
     "campaign": (["--list", "@relay.campaign"], 0),
+    "changes": (["-w", "SREG", "@relay.toml"], None),  # it needs the simulator
     "console": (["@relay.trace"], 0),
     "diff": (["@relay.trace", "@flood.trace"], 1),
     "energy": (["--always-listening", "@currents.toml", "@energy.toml", "@energy.profile"], 0),
     "expect": (["--trace", "@relay.trace", "@relay.expect"], 0),
     "export": (["csv", "@relay.trace"], 0),
     "gdb": (["--avrora", "@avrora", "@relay.toml"], None),  # it speaks with gdb
+    "hunt": (["--until", "9000", "@relay.toml"], None),  # it needs the simulator
     "inspect": (["@net.state"], 0),
     "links": (["@relay.toml", "@relay.trace"], 0),
     "mknet": (["line", "relay.hex*5"], 0),
@@ -34,6 +36,7 @@ USES = {
     ),  # it needs the simulator
     "timeline": (["-s", "@relay.toml", "@relay.trace"], 0),
     "vcd": (["-s", "@relay.toml", "@relay.trace"], 0),
+    "when": (["@relay.toml", "0", "0000"], None),  # it needs the simulator
     "why": (["@relay.toml"], 0),
     "window": (["--avrora", "@avrora", "@relay.toml", "80_000", "90_000"], 0),
 }

@@ -78,15 +78,16 @@ def filtered(arguments: argparse.Namespace, scenario: str) -> int:
         process = subprocess.Popen(words, cwd=folder, stdin=subprocess.DEVNULL, stdout=subprocess.PIPE)
     except OSError as fault:
         raise CannotWork(f"cannot run {files.shown(words[0])}: {fault.strerror}") from None
-    try:
-        write_rows(cast(BinaryIO, process.stdout), arguments.first)
-    except BadInput as fault:
-        if not process.wait():
-            raise CannotWork(str(fault)) from None
-    except BaseException:
-        process.kill()
-        raise
-    status = process.wait()
+    with process:
+        try:
+            write_rows(cast(BinaryIO, process.stdout), arguments.first)
+        except BadInput as fault:
+            if not process.wait():
+                raise CannotWork(str(fault)) from None
+        except BaseException:
+            process.kill()
+            raise
+        status = process.wait()
     if status in REFUSALS:
         return Status.BAD_INPUT  # of which the simulator has told
     if status:
