@@ -63,6 +63,11 @@ class Bench:
         content = {**shipment.files, runs.PROOF_NAME: runs.PROOF_IMAGE.encode()}
         self.sums = {name: hashlib.sha256(content).digest() for name, content in content.items()}
 
+    def close(self) -> None:
+        """Closes what is open, once no run is asked for any more."""
+        self.files.close()
+        self.caller.close()
+
     def prove(self) -> str | None:
         """Unpacks what is not there, and runs a known scenario. None where it came out as it should, else why not."""
         try:

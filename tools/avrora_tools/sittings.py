@@ -223,6 +223,7 @@ class Arbiter:
         if self.bench is None:
             place = self.stack.enter_context(tempfile.TemporaryDirectory(prefix="avrora-arbiter-"))
             self.bench = benches.Bench(self.shipment, place)
+            self.stack.callback(self.bench.close)
             reason = self.bench.prove()
             if reason:
                 self.bench = None

@@ -1,5 +1,6 @@
 """Repositories of a stranger, drawn by a seed: what is in them, and beside them the home of a victim."""
 import os
+import pathlib
 import random
 import shutil
 import sqlite3
@@ -95,7 +96,7 @@ class World:
         for folder, folders, names in os.walk(self.home):
             for path in (f"{folder}/{name}" for name in ("", *folders, *names)):
                 told = os.lstat(path)
-                content = open(path, "rb").read() if stat.S_ISREG(told.st_mode) else None
+                content = pathlib.Path(path).read_bytes() if stat.S_ISREG(told.st_mode) else None
                 # Of a file that the repository has a name of too, that name may go.
                 changed = (
                     None if stat.S_ISREG(told.st_mode) and path in self.shared else (told.st_ctime_ns, told.st_nlink)
