@@ -18,6 +18,9 @@ readonly MOST_EPOCHS=9999999 MOST_CYCLES=10000000 MOST_NUMBER=65535 LAST_CYCLE=1
 # What the program takes for granted of a processor, by the names of /proc/cpuinfo: x86-64-v2 (pni is SSE3).
 readonly NEEDED_OF_PROCESSOR='cx16 lahf_lm pni popcnt sse4_1 sse4_2 ssse3'
 
+# The most lines that /proc/cpuinfo has of its first processor; Linux writes less than half as many.
+readonly LINES_OF_A_PROCESSOR=64
+
 usage() {
     cat <<TEXT
 Usage: $called [-C DIR] COMMAND
@@ -170,17 +173,18 @@ explain_refusal() {
 # Sets `lacking` to the features that the program needs and the processor does not have, by a file like /proc/cpuinfo:
 # find_lacking FILE. Without such a file it finds nothing that lacks.
 find_lacking() {
-    local line flags= told= needed
+    local told line flags= needed
     lacking=
     [[ -r $1 ]] || return 0
-    while IFS= read -r line; do
-        told=yes
+    # at once: the system makes the file anew for each read of it
+    mapfile -t -n "$LINES_OF_A_PROCESSOR" told <"$1"
+    ((${#told[@]})) || return 0
+    for line in "${told[@]}"; do
         if [[ $line == flags* ]]; then
             flags=" ${line#*:} "
             break
         fi
-    done <"$1"
-    [[ -n $told ]] || return 0
+    done
     for needed in $NEEDED_OF_PROCESSOR; do
         [[ $flags == *" $needed "* ]] || lacking+=" $needed"
     done
