@@ -228,10 +228,12 @@ launch() {
         trap "rm -f $(printf %q "$said")" EXIT
         run "$program" "$@" 2>"$said"
         status=$?
-        cat "$said" >&2
-        line=$(tail -n 1 "$said" | tr -d '\0')
-        # of bad words the usage tells, and a program that ended by a signal wrote no cause
-        ((status == 0 || status == BAD_WORDS || status >= NOT_THERE)) || explain "$status" "$line"
+        [[ ! -s $said ]] || cat "$said" >&2
+        # the usage tells of bad words, and a program that a signal ended wrote no cause
+        if ((status != 0 && status != BAD_WORDS && status < NOT_THERE)); then
+            line=$(tail -n 1 "$said" | tr -d '\0')
+            explain "$status" "$line"
+        fi
     else
         run "$program" "$@"
         status=$?

@@ -1,7 +1,7 @@
 #!/usr/bin/env python3
 """Tests of what check_docs.py asks of documents besides their maps. Each script of scripts/ and bench/ takes --help,
-writes what stands at its top, names itself and does nothing else. What a document tells of a trial is of what stands
-here.
+writes what stands at its top, names itself and does nothing else. No sentence of a document is too long. What a
+document tells of a trial is of what stands here.
 
     scripts/test_documents.py
 """
@@ -13,6 +13,7 @@ import unittest
 from pathlib import Path
 
 import helps
+import sentences
 import trials
 from gating import suites
 
@@ -52,6 +53,56 @@ class Help(unittest.TestCase):
             "Does": "Does",
         }.items():
             self.assertEqual(helps.first_sentence(text), first)
+
+
+class Sentences(unittest.TestCase):
+    def found(self, text):
+        return [(it.line, it.words) for it in sentences.sentences(text)]
+
+    def test_ends(self):
+        for text, words in {
+            "One two. Three.": [2, 1],
+            "One (two.) Three": [2, 1],
+            "One two .. three. Four": [3, 1],
+            "One two! Three? Four": [2, 1, 1],
+            "In 0.5 s, by 3.11 of `a. b. c`. Next": [7, 1],
+            "Debian, e.g. bookworm, by B. L. Titzer": [7],
+            "One two: three; four.": [4],
+            "A [link of five words](docs/a.md#b) and **two** words": [8],
+            "One — two = three": [3],
+            "One\ntwo\n\nthree": [2, 1],
+            "": [],
+        }.items():
+            with self.subTest(text):
+                self.assertEqual([it[1] for it in self.found(text)], words)
+
+    def test_what_is_no_sentence(self):
+        text = (
+            "# A heading here\n\nOne two.\n\n    code of four words\n\n```console\n$ more code\n\nhere\n```\n"
+            "| A | table |\n|---|---|\n![A picture](a.svg)\n<!-- a\ncomment -->\nThree four five.\n"
+        )
+        self.assertEqual(self.found(text), [(3, 2), (17, 3)])
+
+    def test_items(self):
+        text = "It takes\n\n- one two;\n  three `a b`\n    four\n- five. Six\n  seven.\n1. Eight\n"
+        self.assertEqual(self.found(text), [(1, 2), (3, 5), (6, 1), (6, 2), (8, 1)])
+
+    def test_lines(self):
+        self.assertEqual(self.found("One `a\nb` two.\nThree. Four\nfive.\n"), [(1, 3), (3, 1), (3, 2)])
+
+    def test_wrong(self):
+        long, longest = " ".join(["word"] * 46), " ".join(["word"] * 45)
+        short = "One two.\n\n"
+        self.assertEqual(list(sentences.wrong("R.md", f"{short}{longest}.\n")), [])
+        self.assertEqual(
+            list(sentences.wrong("R.md", f"{short}{long}.\n")),
+            [f"R.md:3: a sentence of 46 words, 45 are the most: {long[:60]}.."],
+        )
+        many = " ".join(["word"] * 26)
+        self.assertEqual(
+            list(sentences.wrong("R.md", f"{many}.\n")), ["R.md: its sentences have 26.0 words on the mean, 25 are the most"]
+        )
+        self.assertEqual(list(sentences.wrong("R.md", f"{many[5:]}.\n")), [])
 
 
 class Trials(unittest.TestCase):

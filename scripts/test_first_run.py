@@ -270,6 +270,7 @@ class FirstRun(OfARepository):
             (4, "avrora: a.toml: scenario refused: SelfLink", "(SelfLink: a link from a node to itself; docs/FORMATS.md; avrora-tools why FILE says where)"),
             (8, "avrora: m: moves refused: TooLong, line 2", "(TooLong: a line has more than 65,536 bytes; docs/FORMATS.md)"),
             (8, "avrora: m: moves refused: TooLong", "(TooLong: it has more than 4,194,304 bytes; docs/FORMATS.md)"),
+            (8, "avrora: p: places refused: NoPlace, line 2", "(NoPlace: at this data address stands no such byte: "),
             # a name of somebody's choice
             (8, "avrora: a: image refused: NoEnd: state refused: OutOfBounds, line 3", "(OutOfBounds: the line, another than line 2, "),
             (1, "avrora: write failed", "(a full disk, a closed descriptor, "),
@@ -284,17 +285,43 @@ class FirstRun(OfARepository):
             self.assertEqual(self.on_a_terminal("say", str(status), "a line"), (status, ["a line"]))
 
     def test_each_cause_is_explained(self):
-        """Each row of each table of causes in FORMATS.md, by the line that the program writes."""
-        pairs = 0
-        for part, kind in (("Scenarios", "scenario"), ("Images", "image"), ("Sources", "source"), ("States", "state"), ("Moves", "moves")):
-            for whole, cause, text in causes(part):
-                where = "" if whole or kind == "scenario" else ", line 7"
-                line = f"avrora: a name: {kind} refused: {cause}{where}"
-                words = ["bash", "-c", 'called= own_help= notice= formats=$1; . "$2"; explain 8 "$3"', "bash", TOP / "docs/FORMATS.md", TOP / "scripts/launcher.sh", line]
+        """Each cause that the program can write, in its line, by the row of FORMATS.md; no table there has another one."""
+        for kind, (status, part, crate) in REFUSALS.items():
+            written, rows = written_causes(kind, crate), list(causes(part))
+            self.assertTrue(written, kind)
+            self.assertEqual(sorted(name for name, _ in written), sorted(cause for _, cause, _ in rows), kind)
+            for name, has_line in written:
+                texts = {whole: text for whole, cause, text in rows if cause == name}
+                text = texts.get(not has_line, next(iter(texts.values())))
+                line = f"avrora: a name: {kind} refused: {name}{', line 7' if has_line else ''}"
+                words = ["bash", "-c", 'called= own_help= notice= formats=$1; . "$2"; explain "$3" "$4"', "bash"]
+                words += [TOP / "docs/FORMATS.md", TOP / "scripts/launcher.sh", str(status), line]
                 said = subprocess.run(words, capture_output=True, text=True, check=True).stderr
-                self.assertTrue(said.startswith(f"({cause}: {text}; docs/FORMATS.md"), (line, said))
-                pairs += 1
-        self.assertGreaterEqual(pairs, 38)
+                self.assertTrue(said.startswith(f"({name}: {text}; docs/FORMATS.md"), (line, said))
+
+
+# Each kind of refusal in the program's lines: its exit status, the part of FORMATS.md with its causes, and the crate that finds them;
+# command_plans alone names those of states.
+REFUSALS = {
+    "scenario": (4, "Scenarios", "scenario_file"),
+    "image": (5, "Images", "ihex_loader"),
+    "source": (7, "Sources", "asm_text"),
+    "state": (8, "States", None),
+    "moves": (8, "Moves", "moves_text"),
+    "places": (8, "Places", "places_text"),
+}
+
+
+def written_causes(kind, crate):
+    """The causes that the program writes of a kind, each with whether a line number stands behind it. Want of memory ends with a
+    status and a line of its own."""
+    reports = (TOP / "crates/command_plans/src/reports.rt").read_text(encoding="utf-8")
+    found = re.findall(rf'{kind.capitalize()}(?:Cause::\w+|Cause::Faulty\([^"]*\)) => \("(\w+)", (None|Some)', reports)
+    if crate:
+        own = (TOP / f"crates/{crate}/src/fault.rt").read_text(encoding="utf-8")
+        # of a scenario no fault has a line
+        found += [(name, "Some" if of == "LineFault" else "None") for of, name in re.findall(r'(\w+)::\w+ => "(\w+)"', own)]
+    return [(name, line == "Some") for name, line in found if name != "NoMemory"]
 
 
 def causes(part):
