@@ -15,7 +15,7 @@ from avrora_tools.hunting.oracles import Oracle
 from avrora_tools.hunting.races import NAME as ARRIVALS
 from avrora_tools.hunting.races import Races
 from avrora_tools.hunting.smaller import OracleOf
-from avrora_tools.hunting.trials import Runner, Scenes, scenes
+from avrora_tools.hunting.trials import Runner, Scenes, processor_seconds, scenes
 from avrora_tools.sweeping.cluster import ClusterTails
 from avrora_tools.sweeping.limits import Limit
 from avrora_tools.sweeping.simulation import ProcessTails, Simulator
@@ -56,7 +56,7 @@ def run(arguments: argparse.Namespace) -> int:
     corpus = Corpus(arguments.corpus or os.path.splitext(arguments.scenario)[0] + ".hunt")
     simulator = Simulator(cli.simulator(arguments.avrora), folder_of(arguments.scenario), arguments.timeout)
     scenes_ = scenes(document)
-    with Limit(60.0 * arguments.minutes).by_signals() as limit, tails_of(arguments, simulator, scenes_) as tails:
+    with limit_of(arguments).by_signals() as limit, tails_of(arguments, simulator, scenes_) as tails:
         tails.is_over = limit.is_over
         oracle_of = oracle_maker(arguments, len(scenario.images))
         lines = Lines(tails, known)
@@ -67,7 +67,7 @@ def run(arguments: argparse.Namespace) -> int:
             races = Races(simulator, document, until, known, arguments.jobs, limit, corpus.race)
         has_check = bool(arguments.expect or arguments.check)
         hunt = Hunt(
-            Runner(tails, scenes_), document, until, oracle_of, has_check, races, lines, limit, arguments.seed, chosen
+            Runner(tails, scenes_, oracle_of(len(scenario.images)).rows), document, until, oracle_of, has_check, races, lines, limit, arguments.seed, chosen
         )
         if hunt.unmoved_failure:
             raise BadInput(f"the scenario fails as it is, with nothing varied: {hunt.unmoved_failure.text}")
@@ -78,6 +78,13 @@ def run(arguments: argparse.Namespace) -> int:
         telling.print_hunt(hunt, corpus, arguments.scenario, arguments.elf)
         corpus.write(arguments.seed, hunt.rounds, hunt.failing)
     return Status.NOT_MET if hunt.findings else limit.status(Status.GOOD)
+
+
+def limit_of(arguments: argparse.Namespace) -> Limit:
+    """How long a hunt takes: by the clock, or of processors, which does not count how busy the machine is else."""
+    if arguments.processor_minutes:
+        return Limit(60.0 * arguments.processor_minutes, processor_seconds)
+    return Limit(60.0 * arguments.minutes)
 
 
 def print_plan(hunt: Hunt, corpus: Corpus) -> None:
@@ -149,6 +156,9 @@ def configure(parser: argparse.ArgumentParser) -> None:
     parser.add_argument("--check", metavar="FILE", help="check each run by the function check(run) of this Python file")
     cli.add_nodes(parser)
     parser.add_argument("--minutes", type=cli.positive, default=MINUTES, metavar="N", help="how long (%(default)s)")
+    parser.add_argument(
+        "--processor-minutes", type=cli.positive, metavar="N", help="instead, minutes of all processors together"
+    )
     parser.add_argument("--rounds", type=cli.positive, metavar="N", help="end after N rounds of turns")
     parser.add_argument("--seed", type=cli.natural, default=1, metavar="N", help="by which it draws (%(default)s)")
     parser.add_argument("--only", metavar="KINDS", help=f"these kinds alone, of {','.join(NAMES)}")

@@ -53,7 +53,7 @@ class OracleCheck:
     head: bytes
 
     def judged(self, output: bytes) -> Failure | None:
-        return self.oracle.failure(self.reference, None, self.head + output)
+        return self.oracle.failure(self.reference, None, self.head + self.oracle.rows(output))
 
     def failure(self, move: Move, output: bytes) -> str | None:
         found = self.judged(output)
@@ -190,7 +190,7 @@ class Races:
         program = self.program(visit.event.node)
         sharing = self.sharing(visit.event.node, program)
         with ProcessTails(self.simulator, scenario, self.jobs) as tails:
-            check = OracleCheck(oracle, reference, tails.head)
+            check = OracleCheck(oracle, reference, oracle.rows(tails.head))
             sweep = Sweep(tails, scenario, check, program, sharing, self.limit)
             for _ in sweep.run(options):
                 pass

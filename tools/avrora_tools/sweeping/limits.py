@@ -5,7 +5,7 @@ import os
 import signal
 import threading
 import time
-from collections.abc import Iterator
+from collections.abc import Callable, Iterator
 from types import FrameType
 
 from avrora_tools.terminal import say
@@ -20,13 +20,15 @@ SIGNALLED = 128  # and the signal: the status of what a signal ended
 class Limit:
     """Whether to go on."""
 
-    def __init__(self, seconds: float | None = None) -> None:
-        self.begun = time.monotonic()
+    def __init__(self, seconds: float | None = None, clock: Callable[[], float] = time.monotonic) -> None:
+        """`clock` tells the seconds of which there are so many: those of a clock on the wall, or of processors."""
+        self.clock = clock
+        self.begun = clock()
         self.seconds = seconds
         self.signal: int | None = None
 
     def spent(self) -> float:
-        return time.monotonic() - self.begun
+        return self.clock() - self.begun
 
     def is_over(self, share: float = 1.0) -> bool:
         """Whether it is to end, or so much of its time is over."""
