@@ -11,6 +11,8 @@ from dataclasses import dataclass
 
 from avrora_tools.hunting.changes import Trial
 from avrora_tools.hunting.said import clashes_at, last_sends, without_samples
+from avrora_tools.hunting.watching import breach_in
+from avrora_tools.sweeping.always import Breach
 from avrora_tools.sweeping.rows import stops, written, written_before
 from avrora_tools.sweeping.verdicts import CaseCheck, PredicateCheck, listed
 
@@ -28,10 +30,11 @@ class Failure:
     node: int | None
     text: str
     has_clash: bool = False
+    condition: str = ""  # of a condition that does not hold: its words, and who broke it
 
     def cause(self) -> tuple[str, str]:
         """What failures of one cause have in common, as far as it can be seen."""
-        return self.class_, "with a clash there" if self.has_clash else ""
+        return self.class_, self.condition or ("with a clash there" if self.has_clash else "")
 
 
 @dataclass(frozen=True)
@@ -70,10 +73,12 @@ def parts_of(text: bytes, is_cut: bool) -> Counter[bytes]:
 
 
 class Oracle:
-    """Judges runs beside the one that is not varied, or by a check of the user."""
+    """Judges runs beside the one that is not varied, or by what the user says: a check, or conditions."""
 
-    def __init__(self, nodes: Collection[int], user: CaseCheck | PredicateCheck | None = None) -> None:
-        self.nodes, self.user = nodes, user
+    def __init__(
+        self, nodes: Collection[int], user: CaseCheck | PredicateCheck | None = None, has_conditions: bool = False
+    ) -> None:
+        self.nodes, self.user, self.has_conditions = nodes, user, has_conditions
 
     def rows(self, output: bytes) -> bytes:
         """The rows of a run that this looks at; a check of the user may look at all."""
@@ -86,6 +91,9 @@ class Oracle:
             if stopped[node] != reference.stops.get(node):
                 text = f"node {node} stopped by {stopped[node]}, and not so where nothing varies"
                 return Failure(STOPPED, node, text)
+        if self.has_conditions:
+            breach = breach_in(output)
+            return failure_of(breach) if breach else None
         if self.user:
             wrong = self.user.failure((), output)
             return Failure(UNMET, None, wrong) if wrong else None
@@ -118,6 +126,11 @@ class Oracle:
                 when = f"in cycle {now[node]:,}" if node in now else "never"
                 return Failure(SILENT, node, f"node {node} sends to the end where nothing varies, and here last {when}")
         return None
+
+
+def failure_of(breach: Breach) -> Failure:
+    who = f" by {breach.writer}" if breach.writer else ""
+    return Failure(UNMET, breach.node, str(breach), condition=f"`{breach.condition}` broken{who}")
 
 
 def is_steady(reference: Reference, node: int) -> bool:

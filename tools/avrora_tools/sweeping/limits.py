@@ -34,6 +34,10 @@ class Limit:
         """Whether it is to end, or so much of its time is over."""
         return self.signal is not None or self.seconds is not None and self.spent() >= share * self.seconds
 
+    def part(self, share: float) -> "Limit":
+        """The limit of a piece of this work, which may take such a share of its time."""
+        return Part(self, None if self.seconds is None else share * self.seconds)
+
     def reason(self) -> str:
         """What ended it, in words."""
         if self.signal is not None:
@@ -61,6 +65,17 @@ class Limit:
         for taken in TAKEN:
             signal.signal(taken, signal.default_int_handler if taken == signal.SIGINT else signal.SIG_DFL)
         self.signal = number
+
+
+class Part(Limit):
+    """The limit of a piece of work: over where its own time is, or that of the whole."""
+
+    def __init__(self, whole: Limit, seconds: float | None) -> None:
+        super().__init__(seconds, whole.clock)
+        self.whole = whole
+
+    def is_over(self, share: float = 1.0) -> bool:
+        return self.whole.is_over() or super().is_over(share)
 
 
 class Teller:
