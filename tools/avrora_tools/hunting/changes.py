@@ -170,5 +170,16 @@ def change_without_node(change: Change, node: int) -> Change | None:
     return dataclasses.replace(change, **ends)
 
 
+def nodes_of(change: Change) -> tuple[int, ...]:
+    """The nodes that a change is of."""
+    return (change.node,) if isinstance(change, Input) else (change.sender, change.hearer)
+
+
+def alone_node(document: Document, node: int) -> Document:
+    """A scenario in which a node neither has an input nor hears anybody, and nobody hears it."""
+    links = [link for link in document.get("link", []) if node not in ends_of(link)]
+    return {**document, "link": links, "input": [it for it in document.get("input", []) if it["node"] != node]}
+
+
 def without_links(document: Document, gone: Sequence[tuple[int, int]]) -> Document:
     return {**document, "link": [link for link in document.get("link", []) if ends_of(link) not in gone]}

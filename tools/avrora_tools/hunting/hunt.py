@@ -1,5 +1,6 @@
 """A hunt: rounds in which each kind of variation has turns, more of them where it found something."""
 import random
+import time
 from collections import Counter
 from collections.abc import Callable, Iterator, Sequence
 
@@ -11,8 +12,8 @@ from avrora_tools.hunting.races import NAME as ARRIVALS
 from avrora_tools.hunting.races import Races
 from avrora_tools.hunting.said import bursts_of
 from avrora_tools.hunting.smaller import OracleOf, Scene, Smaller
-from avrora_tools.hunting.trials import Runner
-from avrora_tools.sweeping.limits import Limit
+from avrora_tools.hunting.trials import Runner, processor_seconds
+from avrora_tools.sweeping.limits import Limit, shown_time
 
 LOOKING = 0.85  # the share of the time in which new trials are made; what failed is made small in the rest too
 TURN = 12  # trials of a kind in a round
@@ -42,6 +43,7 @@ class Hunt:
         self.runner, self.document, self.until, self.oracle_of = runner, document, until, oracle_of
         self.has_check, self.races, self.lines, self.limit, self.seed = has_check, races, lines, limit, seed
         self.chosen = chosen
+        self.begun = time.monotonic()
         output = runner.output(document)
         self.reference = Reference(output, until, int(document["cycles"]))
         self.oracle: Oracle = oracle_of(len(document["node"]))
@@ -149,7 +151,7 @@ class Hunt:
                 return
         self.findings.append(found)
         self.credit[kind] += 2
-        tell(f"found after {self.runner.runs:,} runs, by {kind}: {found.failure.text}")
+        self.tell_found(tell, kind, found.failure.text)
 
     def take_race(self, found: Finding, tell: Told) -> None:
         for finding in self.findings:
@@ -164,8 +166,11 @@ class Hunt:
             else:
                 found.scene = None
         self.findings.append(found)
+        self.tell_found(tell, ARRIVALS, found.places[0])
+
+    def tell_found(self, tell: Told, kind: str, text: str) -> None:
         runs = self.runner.runs + (self.races.runs if self.races else 0)
-        tell(f"found after {runs:,} runs, by {ARRIVALS}: {found.places[0]}")
+        tell(f"found after {runs:,} runs ({shown_time(processor_seconds())} of processors), by {kind}: {text}")
 
 
 def raw_look(finding: Finding, document: Document) -> Look:

@@ -10,6 +10,7 @@ from avrora_tools.hunting.causes import Finding
 from avrora_tools.hunting.changes import Document, Input, Trial, inputs_of
 from avrora_tools.hunting.oracles import Failure, Oracle, Reference
 from avrora_tools.hunting.smaller import Scene
+from avrora_tools.hunting.watching import Conditions
 from avrora_tools.occurrences import Executions
 from avrora_tools.programs import Program, Programs
 from avrora_tools.sweeping import findings as grouping
@@ -31,6 +32,7 @@ BEFORE, BEHIND = 12, 12  # cycles that are swept about a visit
 WIDE = 3_000  # of a drawn span
 PER_PLACE = 3  # classes of each interrupted instruction that are run of a drawn span
 MOST_VISITS = 40  # of one byte
+VISIT_SHARE = 0.1  # of the time of a hunt that one visit may take
 
 
 @dataclasses.dataclass(frozen=True)
@@ -50,13 +52,15 @@ class OracleCheck:
 
     oracle: Oracle
     reference: Reference
-    head: bytes
+    tails: ProcessTails
+    conditions: Conditions | None
 
-    def judged(self, output: bytes) -> Failure | None:
-        return self.oracle.failure(self.reference, None, self.head + output)
+    def judged(self, move: Move, output: bytes) -> Failure | None:
+        row = self.conditions.row(self.tails, move) if self.conditions else b""
+        return self.oracle.failure(self.reference, None, self.oracle.rows(self.tails.head + output) + row)
 
     def failure(self, move: Move, output: bytes) -> str | None:
-        found = self.judged(output)
+        found = self.judged(move, output)
         return found.text if found else None
 
 
@@ -72,8 +76,10 @@ class Races:
         jobs: int,
         limit: Limit,
         place_of: Callable[[int], str],
+        conditions: Conditions | None = None,
     ) -> None:
         """`place_of` names the file of a race, by its number."""
+        self.conditions = conditions
         self.place_of = place_of
         self.written = 0
         self.simulator, self.document, self.until, self.jobs, self.limit = simulator, document, until, jobs, limit
@@ -190,8 +196,8 @@ class Races:
         program = self.program(visit.event.node)
         sharing = self.sharing(visit.event.node, program)
         with ProcessTails(self.simulator, scenario, self.jobs) as tails:
-            check = OracleCheck(oracle, reference, tails.head)
-            sweep = Sweep(tails, scenario, check, program, sharing, self.limit)
+            check = OracleCheck(oracle, reference, tails, self.conditions)
+            sweep = Sweep(tails, scenario, check, program, sharing, self.limit.part(VISIT_SHARE))
             for _ in sweep.run(options):
                 pass
             self.runs += sweep.results.runs
@@ -201,7 +207,8 @@ class Races:
         places = grouping.lines_of(one.spots)
         used = sweep.thing_in_use(one)
         ends, parting = sweep.ends(one), sweep.parting(one)
-        failure = check.judged(sweep.tails.output(one.first().move())) or Failure("lost", None, "")
+        earliest = one.first().move()
+        failure = check.judged(earliest, sweep.tails.output(earliest)) or Failure("lost", None, "")
         told = [f"{' and '.join(places)}" + (f"; {used}" if used else ""), *filter(None, (ends, parting))]
         event = sweep.scenario.moved[-1].event
         assert isinstance(event, InputByte)

@@ -11,9 +11,11 @@ from avrora_tools.hunting.changes import (
     Document,
     Input,
     Trial,
+    alone_node,
     change_without_node,
     ends_of,
     inputs_of,
+    nodes_of,
     without_links,
     without_node,
 )
@@ -38,9 +40,10 @@ class Scene:
         return self.trial.applied(self.document)
 
     def size(self) -> tuple[int, int, int, int]:
-        """Nodes, links, changes, cycles."""
+        """Nodes that have a link or an input, links, changes, cycles."""
         links = self.document.get("link", [])
-        return len(self.document["node"]), len(links), len(self.trial.changes), int(self.document["cycles"])
+        nodes = {end for link in links for end in ends_of(link)} | {it.node for it in inputs_of(self.document)}
+        return len(nodes), len(links), len(self.trial.changes), int(self.document["cycles"])
 
 
 OracleOf = Callable[[int], Oracle]  # for a number of nodes
@@ -98,6 +101,7 @@ class Smaller:
 
     def fewer_nodes(self, scene: Scene) -> Iterator[Scene]:
         if not self.may_renumber:
+            yield from fewer_with_part(scene)
             return
         count = len(scene.document["node"])
         for node in reversed(range(count if count > 1 else 0)):
@@ -106,6 +110,18 @@ class Smaller:
             if kept:
                 trial = scene.trial.with_changes(kept)
                 yield dataclasses.replace(scene, document=without_node(scene.document, node), trial=trial)
+
+
+def fewer_with_part(scene: Scene) -> Iterator[Scene]:
+    """Without the links and the input of a node, which stays and has its number."""
+    busy = {it.node for it in inputs_of(scene.document)}
+    for link in scene.document.get("link", []):
+        busy.update(ends_of(link))
+    for node in sorted(busy, reverse=True):
+        kept = [it for it in scene.trial.changes if node not in nodes_of(it)]
+        if kept:
+            document = alone_node(scene.document, node)
+            yield dataclasses.replace(scene, document=document, trial=scene.trial.with_changes(kept))
 
 
 def is_alike(found: Failure | None, failure: Failure) -> TypeGuard[Failure]:

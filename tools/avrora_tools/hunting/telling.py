@@ -1,6 +1,7 @@
 """What a hunt tells, and the scenarios that it writes."""
 import os
 import shlex
+import time
 from collections.abc import Iterable
 
 from avrora_tools import files
@@ -32,9 +33,9 @@ def print_hunt(hunt: Hunt, corpus: Corpus, scenario: str, elf: Iterable[str]) ->
 
 def print_tried(hunt: Hunt) -> None:
     races = hunt.races.runs if hunt.races else 0
-    seconds = hunt.limit.spent()
     print(
-        f"{hunt.runner.runs + races:,} runs in {shown_time(seconds)} ({processor_seconds():,.0f} processor seconds), "
+        f"{hunt.runner.runs + races:,} runs in {shown_time(time.monotonic() - hunt.begun)} "
+        f"({processor_seconds():,.0f} processor seconds), "
         f"{hunt.rounds} rounds of seed {hunt.seed}"
     )
     if hunt.limit.signal is not None:
