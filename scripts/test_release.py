@@ -579,6 +579,7 @@ class Manuals(OfARepository):
                 "    .dot",
                 "",
                 "- an item",
+                "  over two lines",
                 "",
                 "### Below",
                 "",
@@ -603,7 +604,7 @@ class Manuals(OfARepository):
             ".EE",
             ".RE",
             r".IP \(bu 2",
-            "an item",
+            "an item over two lines",
             '.SS "Below"',
             ".TP",
             r"\fBk\fR",
@@ -630,11 +631,18 @@ class Manuals(OfARepository):
         self.assertEqual(manuals.part(text, "## A"), "one\n\n```\n## no heading\n```\n\n### B\n\ntwo")
         with self.assertRaises(manuals.NoSuchPart):
             manuals.part(text, "## D")
+        about = "# T\n\nOne. Two. The end is proved. More.\n\nThe start.\n"
+        self.assertEqual(manuals.first_paragraph(about, without="The end is"), "One. Two.")
+        with self.assertRaises(manuals.NoSuchPart):
+            manuals.first_paragraph(about, without="The start")
 
     def test_the_pages(self):
         pages = sorted(self.unpacked().glob("share/man/*/*"))
         self.assertEqual([it.name for it in pages], ["avrora-tools.1", "avrora.1", "avrora-scenario.5", "avrora-trace.5"])
         main, scenario, trace = (it.read_text(encoding="utf-8") for it in pages[1:])
+        about = main.partition('.SH "DESCRIPTION"')[2].partition(".SH")[0]
+        self.assertIn("Intel HEX", about)
+        self.assertNotIn("proved", about)
         self.assertIn(".TP\n\\fBrun \\-\\-plain FILE\\fR\nthe same, on one thread\n", main)
         self.assertIn(".TP\n10\nthere is no program that can run here\n", main)
         self.assertIn(".TP\n\\fBSelfLink\\fR\na link from a node to itself\n", scenario)

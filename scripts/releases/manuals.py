@@ -23,7 +23,7 @@ TRACE = Page("avrora-trace", 5, "what the simulator avrora writes", ("avrora(1)"
 
 
 class NoSuchPart(Exception):
-    """A heading that a document no longer has."""
+    """A heading, or a sentence, that a document no longer has."""
 
 
 def part(text: str, heading: str) -> str:
@@ -40,9 +40,12 @@ def blanked(text: str) -> str:
     return re.sub(r"^(```.*?^```$)", lambda it: it[1].replace("#", " "), text, flags=re.M | re.S)
 
 
-def first_paragraph(text: str) -> str:
-    """The first paragraph of a document below its title."""
-    return text.split("\n\n")[1]
+def first_paragraph(text: str, without: str) -> str:
+    """The first paragraph of a document below its title, up to the sentence that begins with these words."""
+    found, begins, _ = text.split("\n\n")[1].partition(f" {without} ")
+    if not begins:
+        raise NoSuchPart(f"a description ends before a sentence `{without} ..`, which the first paragraph does not have")
+    return found
 
 
 def bold_paragraph(text: str, begins: str) -> str:
@@ -79,8 +82,9 @@ def roff(markdown: str) -> Iterator[str]:
             yield f'.SS "{line.lstrip("# ")}"'
             del lines[0]
         elif line.startswith("- "):
-            yield from (r".IP \(bu 2", running(line[2:]))
             del lines[0]
+            more = taken(lines, lambda it: it.startswith("  ") and it.strip() != "")
+            yield from (r".IP \(bu 2", running(" ".join(map(str.strip, [line[2:], *more]))))
         elif line.startswith("!["):
             del lines[0]
         elif line.strip():

@@ -50,7 +50,7 @@ def add_scenario(parser: argparse.ArgumentParser) -> None:
 
 
 def add_nodes(parser: argparse.ArgumentParser) -> None:
-    parser.add_argument("-n", "--nodes", type=node_set, metavar="NODES", help="these alone, such as 0,2-4")
+    parser.add_argument("-n", "--nodes", type=node_set, metavar="NODES", help="only these nodes, such as 0,2-4")
 
 
 def add_clock(parser: argparse.ArgumentParser) -> None:

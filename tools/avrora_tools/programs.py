@@ -300,8 +300,8 @@ def add_elf(parser: argparse.ArgumentParser) -> None:
         action="append",
         default=[],
         metavar="[NODES=]ELF",
-        help="the program of all nodes, of NODES such as 0,2-4, or with -s of the nodes with an image of its name",
+        help="the program of all nodes, or of NODES such as 0,2-4; with -s of the nodes whose image has its name",
     )
     parser.add_argument(
-        "--force", action="store_true", help="take a program that is not that of the image or the trace"
+        "--force", action="store_true", help="take a program that does not fit the image or the trace"
     )

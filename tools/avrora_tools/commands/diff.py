@@ -11,11 +11,11 @@ from avrora_tools.traces import Row
 
 SUMMARY = "what differs between two traces: first rows, and what is later, gone or new"
 
-DESCRIPTION = """Compares two traces node by node. Of each node that differs it shows the first row that is not the
-same, with the rows about it: `-` before those of the first trace, `+` before those of the second. Of the rows behind
-it, it tells by kind how many are the same but in other cycles, by how much, and which are gone or new. Rows of a kind
-are compared in their order, without their cycles (of a sample without its age too); where they are not the same the
-next ones that are are sought among 64.
+DESCRIPTION = """Compares two traces node by node. For each node that differs it shows the first row that is not the
+same, with the rows about it: `-` stands before those of the first trace, `+` before those of the second. For the rows
+behind it, it tells by kind how many are the same in other cycles, by how much, and which are gone or new. It compares
+rows of a kind in their order, without their cycles, and samples without their age too. Where two differ, it looks for
+the next equal ones among 64.
 
 Status 0: no row differs; 1: one does; 2: bad words, a file that is no trace, or two that can have no such row."""
 

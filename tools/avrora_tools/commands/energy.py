@@ -37,13 +37,13 @@ and a TOML file of currents in mA:
   [node.'1-4']       # other currents of some nodes
   listening = 0.5
 
-`avrora monitor FILE 0 END`, where END are the `cycles` of the scenario in digits alone (no _), writes of the whole run;
-of other cycles than these and the scenario's window --window says which. examples/currents.toml is a table to begin
-with. Cycles without an owner (`lead`: the window began within a sleep or an instruction) may be awake or asleep, so
-what depends on them is told as a span. No report tells when a radio was selected, so the tool runs the scenario again
-and follows the writes to PB0; where it cannot tell, what depends on it is a span too. --always-listening takes each
-radio for selected. A byte that is sent counts for a whole byte time. From its stop on a node draws nothing. Means and
-days are those of the window of the report."""
+`avrora monitor FILE 0 END`, where END are the `cycles` of the scenario in digits alone (no _), writes a report of the
+whole run. If a report is of other cycles than these and than the scenario's window, --window says which.
+examples/currents.toml is a table to begin with. Cycles without an owner (`lead`: the window began within a sleep or an
+instruction) may be awake or asleep, so the tool tells what depends on them as a span. No report tells when a radio was
+selected, so it runs the scenario again and follows the writes to PB0. Where these do not tell, what depends on them is
+a span too. --always-listening takes each radio for selected. A byte that is sent counts for a whole byte time. A
+stopped node draws nothing. Means and days are those of the window of the report."""
 
 def run(arguments: argparse.Namespace) -> int:
     table = table_of(files.read_text(arguments.currents), files.shown(arguments.currents))

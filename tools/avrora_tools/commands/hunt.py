@@ -35,8 +35,8 @@ that still fails. In turns, and more of what finds something:
   losses     links lost for good or open late, nodes silent or deaf
   pairs      two of these
   arrivals   a byte cycle by cycle where main and the handler of USART0 RX use the same things (-e)
-Without a check of yours each node must write to USART0 by the scenario's end what it writes by --until where nothing is
-varied, in any order of lines, and nothing twice; it must not stop, nor fall silent where it sends all the time.
+Without a check of yours each node must write to USART0, by the scenario's end, what it writes by --until in the
+unvaried run: in any order of lines, and nothing twice. It must not stop, nor fall silent if it sends all the time.
 --expect, --check and --always are those of `sweep`; `run.moved` is empty.
 
 The same seed varies the same in the same order; the minutes decide how much of it. FOLDER (SCENARIO's name with .hunt)
@@ -167,7 +167,7 @@ def configure(parser: argparse.ArgumentParser) -> None:
     )
     parser.add_argument("--force", action="store_true", help="take an ELF file that is not that of the node's image")
     parser.add_argument(
-        "--until", type=cli.positive, metavar="CYCLE", help="by when all is due; runs go on to the scenario's end"
+        "--until", type=cli.positive, metavar="CYCLE", help="all must come by then; runs go on to the scenario's end"
     )
     parser.add_argument("--expect", metavar="CASE", help="check each run by this case of `expect`")
     parser.add_argument("--check", metavar="FILE", help="check each run by the function check(run) of this Python file")

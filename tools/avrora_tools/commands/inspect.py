@@ -284,7 +284,7 @@ def run(arguments: argparse.Namespace) -> int:
 
 def configure(parser: argparse.ArgumentParser) -> None:
     cli.describe(parser, DESCRIPTION, "inspect -n 1 -e packet.elf --dump 100-13F packet.state")
-    parser.add_argument("-n", "--nodes", type=cli.node_set, metavar="NODES", help="these alone, such as 0,2-4")
+    parser.add_argument("-n", "--nodes", type=cli.node_set, metavar="NODES", help="only these nodes, such as 0,2-4")
     parser.add_argument(
         "--dump", type=span_of, metavar="FIRST-LAST", help="the data space between these addresses too, such as 100-13F"
     )

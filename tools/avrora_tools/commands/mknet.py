@@ -8,13 +8,13 @@ from avrora_tools.terminal import warn
 SUMMARY = "writes the scenario of a network of some shape"
 
 DESCRIPTION = f"""Writes the scenario of a network of a shape to the standard output. The images are those of the nodes
-in order, IMAGE*COUNT one that COUNT nodes have. Links go both ways. Shapes: {networks.SHAPES}. The number of each node
-arrives at its USART0 as the first byte: at node 0 in cycle --at, at each next one --stagger cycles later. A node that
-learns it before its receiver is enabled loses it and waits for ever. Nodes that learn it in the same cycle run in
+in order; IMAGE*COUNT is one that COUNT nodes have. Links go both ways. Shapes: {networks.SHAPES}. The number of each
+node arrives at its USART0 as the first byte: at node 0 in cycle --at, at each next one --stagger cycles later. A node
+that learns it before its receiver is enabled loses it and waits for ever. Nodes that learn it in the same cycle run in
 lockstep, so that all that they send clashes. A byte time that is shorter than the firmware's round of sampling loses
 bytes. See docs/FIRMWARE.md, "Three losses that nothing reports". Nodes that do not hear each other, as those about a
-star's middle, clash all the same unless the stagger is longer than a packet of theirs; such a star, nodes that nothing
-reaches and parts that no link joins are told. The same words write the same text."""
+star's middle, clash all the same unless the stagger is longer than a packet of theirs. The tool tells of such a star,
+of nodes that nothing reaches, and of parts that no link joins. The same words write the same text."""
 
 
 def two_numbers(text: str) -> networks.Pair:

@@ -13,10 +13,10 @@ SUMMARY = "cycles by function, line and caller; coverage"
 
 DESCRIPTION = """Tells where the cycles of the window went: reads a trace with its end rows, also one of `avrora resume`
 and of the tool window, or with --head the beginning of one; or what `avrora monitor` writes, with its scenario (-s),
-which tells whether it is whole. A row's cycles are those up to the node's next one. Asleep is a node behind its SLEEP
-until an interrupt wakes it. The window is that of --window or of the scenario (-s), as far as the trace goes; else, and
-where the trace is of another window than the scenario's (as the tool window makes it), it goes from the first
-instruction or entry row to the last, or to the trace's end. Charge is in units: 8 for each busy cycle, 1 for each
+which tells whether it is whole. A row's cycles are those up to the node's next one. A node is asleep from behind its
+SLEEP until an interrupt wakes it. The window is that of --window or of the scenario (-s), as far as the trace goes.
+Else it goes from the first instruction or entry row to the last, or to the trace's end; so it does if the trace is of
+another window than the scenario's, as the tool window makes it. Charge is in units: 8 for each busy cycle, 1 for each
 asleep, 512 for each byte sent in the window."""
 
 def print_nodes(spent: Mapping[int, Spent]) -> None:

@@ -23,9 +23,8 @@ with a flame graph, coverage, variables over time (--watch), cases of `expect`, 
 command that gives it.
 
 Cycles by function and coverage are of the whole run, by `avrora monitor`; call stacks are those of a window in which
-instructions are traced: --stacks, else the scenario's, else the one in which nodes send and write most. Sources are
-shown that lie beside a program, or below the folder --sources. A page has at most 5 MB; what is left out to that end is
-told.
+instructions are traced: --stacks, else the scenario's, else the one in which nodes send and write most. The page shows
+sources that lie beside a program, or below the folder --sources. It has at most 5 MB, and tells what it leaves out.
 
 Status 0: all is well; 1: a case is not met, or a sample is not what the sends give; 2: bad words, or a file is refused;
 3: a run failed or took too long."""
@@ -40,7 +39,7 @@ def configure(parser: argparse.ArgumentParser) -> None:
     parser.add_argument("-o", "--out", default="-", metavar="FILE", help="where to write; else the standard output")
     parser.add_argument(
         "-e", "--elf", action="append", default=[], metavar="[NODES=]ELF",
-        help="the program of NODES such as 0,2-4, or of the nodes with an image of its name",
+        help="the program of NODES such as 0,2-4, or of the nodes whose image has its name",
     )  # fmt: skip
     parser.add_argument("--force", action="store_true", help="take a program that is not that of the image")
     parser.add_argument(

@@ -11,9 +11,9 @@ from avrora_tools.rerunning import Rerun, changed, settled, stamps_of
 SUMMARY = "runs a command again when files change, and shows what differs"
 
 DESCRIPTION = """Runs COMMAND, and again each time one of the FILEs changes: an image, a scenario, a case, a source.
-With a scenario its images are watched too, with a case its scenario and its golden rows. Behind the first run it shows
-what differs from the run before: of a trace as `diff` tells it, of any other output line by line. What COMMAND writes
-to the standard error passes through.
+With a scenario it watches the images too, with a case the scenario and the golden rows. After the first run it shows
+what differs from the run before: for a trace as `diff` does, for any other output line by line. What COMMAND writes to
+the standard error passes through.
 
 ^C ends it. Status: with --runs that of the last run of COMMAND; else 0."""
 

@@ -54,15 +54,14 @@ A..B:
   --latency F-T=A..B     the latency of the link from node F to node T
 Two of them make a grid; A..B/STEP takes each STEP-th value alone.
 
-Cycles in which a byte's arrival makes one and the same execution are one class, and one run of each class is made. All
-classes are run, unless --quick, --runs, --stop, --per-place or a step says otherwise; then it is told how many were
-not. --quick is a first look: a clean one proves nothing.
+Cycles in which a byte's arrival makes one and the same execution are one class, and the tool makes one run of each
+class. It runs all classes, unless --quick, --runs, --stop, --per-place or a step says otherwise; then it tells how many
+it did not run. --quick is a first look: a clean one proves nothing.
 
-Each run is checked at its end, which is the deadline of all that is checked: the scenario's `cycles`, or --until.
-Unless --expect, --check or --always says otherwise each node is to write to USART0 what it writes in the run that is
-not moved.
-With -e, of the program of the node whose byte moves, functions, lines and what handlers share with main have their
-names, and it is told where a failing run parts from one that passes.
+It checks each run at its end, which is the deadline of all that is checked: the scenario's `cycles`, or --until. Unless
+--expect, --check or --always says otherwise, each node must write to USART0 what it writes in the run that is not
+moved. With -e, the program of the node whose byte moves, functions, lines and what handlers share with main have their
+names, and the tool tells where a failing run parts from one that passes.
 
 Status 0: no run fails; 1: one does; 2: the words or the files are bad."""
 

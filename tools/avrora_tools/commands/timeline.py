@@ -15,16 +15,16 @@ SUMMARY = "a page to zoom into, or a picture"
 
 DESCRIPTION = """Draws a trace: nodes from top to bottom, cycles from left to right. Writes a page of HTML that needs no
 other file (zoom with the wheel, drag, click what to know more of, go to a cycle, from clash to clash, measure between
-two markers), or with --svg a picture for papers.
-With the scenario (-s) it knows how long a byte is on the air, and who clashed with whom. When exactly a node sleeps is
-known in the window of the scenario alone, where instructions are traced; with --sleep the simulator's `monitor` tells
-which part of each span of the run it slept. With programs (-e) a chosen event tells its source line, in the window. A
-page of more than 5 MB is thinned: of samples, then of other events, of clashes last, that lie close together one is
-kept, and the page says so; --from, --to and --nodes draw less, and all of it.
-With --watch, -s and -e variables and registers, by their names, have tracks of their own below their node: enumerations
-by the names of their values, numbers as high as they are great. The simulator runs for them once more.
-It takes a trace with its end rows, also one of `avrora resume` and of the tool window, or with --head the beginning of
-one."""
+two markers), or with --svg a picture for papers. With the scenario (-s) it knows how long a byte is on the air, and who
+clashed with whom. Exactly when a node sleeps is known only in the window of the scenario, where instructions are
+traced; with --sleep the simulator's `monitor` tells which part of each span of the run it slept. With programs (-e) a
+chosen event tells its source line, in the window. A page above 5 MB leaves events out, and says so: it keeps one of
+several that lie close together, first of samples, then of other events, last of clashes. --from, --to and --nodes draw
+less, and all of it. It takes a trace with its end rows, also one of `avrora resume` and of the tool window, or with
+--head the beginning of one.
+
+With --watch, -s and -e, variables and registers have tracks of their own below their node, by their names. Enumerations
+have the names of their values; numbers are as high as they are great. The simulator runs once more for them."""
 
 def configure(parser: argparse.ArgumentParser) -> None:
     cli.describe(parser, DESCRIPTION, "timeline -s flood.toml -o flood.html flood.trace")

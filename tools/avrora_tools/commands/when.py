@@ -10,9 +10,9 @@ from avrora_tools.sweeping.simulation import Simulator
 SUMMARY = "in which cycles a node executes a function, a line or an address"
 
 DESCRIPTION = """Tells in which cycles node NODE of a scenario executes PLACE: a function (where it is entered), a
-source line FILE:LINE (where each piece of its code begins), or a word address of four digits, as traces have them. How
-often, between which cycles, and the cycles. So a span for `sweep`, `window` or `gdb --at` is found. A function that the
-compiler put into others has no name there: take FILE:LINE. Functions and lines want the ELF file of the node (-e).
+source line FILE:LINE (where each piece of its code begins), or a word address of four digits, as traces have them. It
+tells how often, between which cycles, and the cycles: a span for `sweep`, `window` or `gdb --at`. A function that the
+compiler put into others has no name there: take FILE:LINE. Functions and lines need the ELF file of the node (-e).
 
 Status 0: it is executed; 1: never; 2: there is no such place, or the words or the files are bad."""
 
