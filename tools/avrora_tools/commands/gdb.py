@@ -5,8 +5,8 @@ import socket
 import sys
 from collections.abc import Iterator
 
-from avrora_tools import cli, terminal
-from avrora_tools.debugging import history, packets, session
+from avrora_tools import cli, programs, terminal
+from avrora_tools.debugging import history, inferiors, packets, session
 from avrora_tools.errors import BadWords, CannotWork
 
 SUMMARY = "debugs a run by avr-gdb, forwards and backwards"
@@ -26,6 +26,7 @@ LOOPBACK = "127.0.0.1"
 def configure(parser: argparse.ArgumentParser) -> None:
     cli.describe(parser, DESCRIPTION, "gdb --port 4242 --at 300_000 packet.toml")
     cli.add_simulator(parser)
+    programs.add_elf(parser)
     parser.add_argument("--port", type=port, help="listen there, for one gdb after another; else the standard streams")
     parser.add_argument("--state", metavar="STATE", help="a state in which the run begins, as of `sweep --out`; else reset")
     parser.add_argument("--at", type=cli.natural, metavar="CYCLE", help="where gdb stands at first; else the beginning")
@@ -49,8 +50,9 @@ def run(arguments: argparse.Namespace) -> int:
             raise BadWords(f"--node {arguments.node}: the scenario has nodes 0 to {past.nodes - 1}")
         past.state(cycle)  # so that what is refused is told here
         for channel in channels(arguments.port):
+            named = inferiors.Inferiors(past.scenario, arguments.elf, arguments.force)
             with contextlib.suppress(packets.Gone):
-                session.Session(past, channel, cycle, arguments.node).serve()
+                session.Session(past, channel, cycle, arguments.node, named).serve()
     return 0
 
 
