@@ -46,7 +46,7 @@ class Tail:
         tails, scenario = self.tails, self.tails.scenario
         if not tails.sweeps or is_alone:
             return runs.Job(tails.text(scenario.scenario(self.move, self.window)), 0, {}, None)
-        text = tails.text(scenario.scenario((*self.move[:-1], None), self.window))
+        text = tails.unmoved(self.move[:-1], self.window)
         return runs.Job(text, 0, {}, (0, scenario.line(self.move[-1])))
 
 
@@ -60,6 +60,7 @@ class ClusterTails(ProcessTails):
         paths = dict.fromkeys(it["image"] for it in nodes)
         self.images = {path: f"image{number}.hex" for number, path in enumerate(paths)}
         self.stack = contextlib.ExitStack()
+        self.last_unmoved: tuple[tuple[Move, Window] | None, str] = (None, "")
         self.driver: driving.Driver | None = None
         self.asked: list[tuple[Move, Window]] = []
         self.come: dict[int, bytes] = {}
@@ -107,6 +108,14 @@ class ClusterTails(ProcessTails):
         """A scenario with its images as the shipment calls them."""
         nodes = [{**node, "image": self.images[node["image"]]} for node in document["node"]]
         return scenario_text({**document, "node": nodes})
+
+    def unmoved(self, before: Move, window: Window) -> str:
+        """The scenario of runs that one process makes, which differ in the last event alone: one text for all of them,
+        so that it is made, and goes to a worker, once a batch."""
+        if self.last_unmoved[0] != (before, window):
+            text = self.text(self.scenario.scenario((*before, None), window))
+            self.last_unmoved = (before, window), text
+        return self.last_unmoved[1]
 
     def outputs(self, jobs: Iterable[tuple[Move, Window]]) -> Iterator[bytes]:
         driver = self.driver
