@@ -95,7 +95,7 @@ def print_plan(hunt: Hunt, corpus: Corpus) -> None:
     said = len(hunt.facts.bursts)
     nodes, cycles = len(hunt.document["node"]), int(hunt.document["cycles"])
     print(f"{nodes} nodes, {said:,} packets said where nothing varies; deadline {hunt.until:,}, ", end="")
-    print(f"runs end at {cycles:,}; {corpus.folder} has {len(corpus.failed):,} trials", flush=True)
+    print(f"runs end at {cycles:,}; {files.shown(corpus.folder)} has {len(corpus.failed):,} trials", flush=True)
 
 
 def prepared_document(arguments: argparse.Namespace) -> tuple[Document, int]:

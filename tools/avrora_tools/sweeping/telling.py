@@ -1,9 +1,9 @@
 """What a sweep tells: its plan, its totals, its findings, and the scenario of its earliest failing run."""
 import os
-import shlex
 from collections.abc import Sequence
 
 from avrora_tools import files
+from avrora_tools.showing import shell_folder, shell_line
 from avrora_tools.sweeping.events import InputByte, MovedScenario, is_alone
 from avrora_tools.sweeping.limits import shown_time
 from avrora_tools.sweeping.plans import Cell
@@ -124,14 +124,14 @@ def write_earliest(path: str, sweep: Sweep, cell: Cell) -> list[str]:
             "beside it:\n# "
         )
     events = " and ".join(f"{m.event} at {value:,}" for m, value in zip(scenario.moved, move))
-    command = shlex.join(["avrora", words[0], *(os.path.basename(word) for word in words[1:])])
-    notes = f"# The run of a sweep with {events}.\n# {note}{files.printable(command)}\n"
+    command = shell_line(["avrora", words[0], *(os.path.basename(word) for word in words[1:])])
+    notes = f"# The run of a sweep with {events}.\n# {note}{command}\n"
     files.write_whole(path, notes + scenario_text(document))
     return [words[0], *(os.path.abspath(word) for word in words[1:])]
 
 
 def shown_command(simulator: Simulator, words: Sequence[str]) -> str:
     """A line for a shell, from where this tool is called, that runs the simulator where the images are."""
-    command = shlex.join([simulator.program, *words])
+    command = shell_line([simulator.program, *words])
     here = os.path.relpath(simulator.folder)
-    return command if here == os.curdir else f"(cd {shlex.quote(here)} && {command})"
+    return command if here == os.curdir else f"(cd {shell_folder(here)} && {command})"
