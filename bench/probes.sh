@@ -1,5 +1,5 @@
 #!/usr/bin/env bash
-# Speed that no proof tells: bench/probes.sh [PROGRAM] counts host instructions for one AVR instruction of small
+# How many host instructions an AVR instruction takes: bench/probes.sh [PROGRAM] counts them for small
 # programs, each of which does one thing (the table below), and compares them with the most that each may take. It
 # proves nothing: PROGRAM is one that was built (without it, that of ./avrora, which proves it first). It takes under
 # three minutes, and says that it is skipped if valgrind is missing. Exit status: 0 all take no more, 1 one takes more

@@ -31,11 +31,11 @@ Usage: $called [-C DIR] COMMAND
   head FILE N         run it for N epochs of 262144 cycles, and write their part of the trace
   save FILE N         run it for N epochs, and write the state of the network
   head, save FILE N STATE   the same from a state on, for N epochs more
-  look FILE CYCLE [STATE]  run it up to CYCLE, from a state on where there is one, and write the state of the network then
+  look FILE CYCLE [STATE]  run it up to CYCLE, from STATE on if there is one, and write the state of the network then
   resume FILE STATE   run it from a state on, and write the rest of the trace
-  watch FILE FROM TO PLACES [STATE [MOVES]]  run it, and write each change of a byte, and each instruction, at PLACES from FROM on,
-                      below TO; from a state on, and for each line of MOVES, where they are there
-  sweep FILE STATE MOVES  the same again and again, once for each line of MOVES, with the input that it says
+  watch FILE FROM TO PLACES [STATE [MOVES]]  run it, and write each change of a byte, and each instruction, at PLACES,
+                      from FROM on, below TO; from STATE on, and once for each line of MOVES, if they are there
+  sweep FILE STATE MOVES  do as resume does, once for each line of MOVES, with the input that the line says
   node FILE CYCLES    run the image FILE (Intel HEX) on one node for CYCLES cycles (1 to 10000000, no _), and write its trace
   disasm FILE         list the instructions of the image FILE
   asm FILE            write the program of FILE, a source in assembly, as an image
@@ -47,8 +47,8 @@ ${own_help:+$own_help
 
 ${notice:+$notice
 }Exit status: 0 all is written, 1 writing failed, 2 bad command line, 3 a file cannot be read, 4 a scenario is refused,
-5 an image is refused, 6 out of memory, 7 a source is refused, 8 a state is refused, or moves, or places, 9 the words cannot be had, 10 there is
-no program that can run here. docs/FORMATS.md has every row, format and status.
+5 an image is refused, 6 out of memory, 7 a source is refused, 8 a state, moves or places are refused, 9 the command line
+is no UTF-8, or out of memory, 10 there is no program that can run here. docs/FORMATS.md has every row, format and status.
 TEXT
 }
 
@@ -77,12 +77,12 @@ run() {
     return "$status"
 }
 
-# What a line that the program wrote means, with the status that it ended with: explain STATUS LINE
+# Explains a line that the program wrote before it ended with this status: explain STATUS LINE
 explain() {
     case $1 in
-        "$NOT_WRITTEN") echo '(a full disk, a closed descriptor, or a pipe that nobody reads; what stands there is the beginning of what is due; docs/FAULTS.md)' >&2 ;;
+        "$NOT_WRITTEN") echo '(a full disk, a closed descriptor, or a pipe that nobody reads; what was written is the beginning of what is due; docs/FAULTS.md)' >&2 ;;
         "$CANNOT_READ") echo '(it is not there, it is a folder, or you may not read it; images are looked for in the folder where avrora runs, see -C; docs/FAULTS.md)' >&2 ;;
-        "$NO_MEMORY") echo '(the system refused memory; what stands on the output is the beginning of what is due; docs/FAULTS.md)' >&2 ;;
+        "$NO_MEMORY") echo '(the system refused memory; what was written is the beginning of what is due; docs/FAULTS.md)' >&2 ;;
         "$NO_WORDS") echo 'avrora: a word of the command line is no UTF-8, or memory is refused (docs/FAULTS.md)' >&2 ;;
         *) explain_refusal "$2" ;;
     esac
@@ -116,6 +116,7 @@ explain_words() {
         sniff | check | disasm | asm) forms=(file) ;;
         run) [[ ${2-} == --plain ]] || forms=(file) ;;
         resume | sweep) forms=(file file file) ;;
+        watch) forms=(file from to file file file) ;;
     esac
     shift || return 0
     (($# <= ${#forms[@]})) || return 0
@@ -143,8 +144,8 @@ explain_words() {
     done
 }
 
-# The row of FORMATS.md for the cause in a line, and what says where a scenario is at fault. A fault of a whole file has a
-# table of its own, and no line of the file: explain_refusal LINE
+# Explains the cause in a line by its row of FORMATS.md, and names the tool that says where a scenario is at fault. A fault of a
+# whole file has a table of its own, and no line number: explain_refusal LINE
 explain_refusal() {
     local part where= whole=
     [[ $1 =~ :\ (scenario|image|source|state|moves|places)\ refused:\ ([A-Za-z]+)(,\ line\ [0-9]+)?$ && -r $formats ]] || return 0
@@ -166,8 +167,8 @@ explain_refusal() {
     ' "$formats" >&2
 }
 
-# Sets `lacking` to what a processor lacks that the program needs, as the file FILE tells, which is like /proc/cpuinfo:
-# find_lacking FILE. Where there is no such file nothing is known to lack.
+# Sets `lacking` to the features that the program needs and the processor does not have, by a file like /proc/cpuinfo:
+# find_lacking FILE. Without such a file it finds nothing that lacks.
 find_lacking() {
     local line flags= told= needed
     lacking=

@@ -1,5 +1,5 @@
 #!/usr/bin/env python3
-"""The account of a whole run, slowly: from the rows of full traces, in pieces, which go on from states saved as it goes.
+"""Computes the profile of a whole run slowly: from the rows of full traces, in pieces, which go on from states saved as it goes.
 
     bench/network/accounts.py PROGRAM FILE     compares `PROGRAM monitor FILE 0 CYCLES` with what the rows of all cycles come to
     bench/network/accounts.py network FOLDER   writes FOLDER/many.toml with its images: 64 nodes over 60,000,000 cycles, of which

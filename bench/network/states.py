@@ -1,5 +1,5 @@
 #!/usr/bin/env python3
-"""States as docs/FORMATS.md has them ("States"): what a text says, or the fault of its first faulty line; and the text of a state.
+"""Reads and writes states as docs/FORMATS.md has them ("States"): what a text says, or the fault of its first faulty line; and the text of a state.
 
     bench/network/states.py check SCENARIO STATE     writes `ok`, or the fault as the program tells it
 

@@ -1,5 +1,5 @@
 #!/usr/bin/env python3
-"""Profiles and frames, slowly and from their definitions, of the rows and sends of the slow simulator beside this file.
+"""Computes profiles and frames slowly, from their definitions, of the rows and sends of the slow simulator beside this file.
 
     bench/network/watch.py cases FOLDER        FOLDER is crates/command_facts: writes the calls of `monitor` and `sniff` in data/,
                                                and what they are to come to in stdout

@@ -157,8 +157,9 @@ def guarded(line: str) -> str:
 def of_usage(text: str) -> tuple[str, str]:
     """The synopsis, and the commands as a table in Markdown, of the usage that a launcher writes."""
     synopsis = text.split("\n", 1)[0].removeprefix("Usage: ")
-    commands = re.findall(r"^  (\S.*?)  +(\S.*)$", text, re.M)
-    rows = "\n".join(f"| `{words}` | {what} |" for words, what in commands)
+    # what a command does may go on in lines that are set in further
+    commands = re.findall(r"^  (\S.*?)  +(\S.*(?:\n {3,}\S.*)*)$", text, re.M)
+    rows = "\n".join(f"| `{words}` | {' '.join(what.split())} |" for words, what in commands)
     return f"`{synopsis}`", f"| Command | Does |\n|---|---|\n{rows}"
 
 
