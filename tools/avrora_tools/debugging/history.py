@@ -123,11 +123,11 @@ class History:
         """`folder` is one for files of its own, which whoever made it clears away; the run begins in the state of the
         file `state`, else at reset."""
         self.simulator, self.own = simulator, folder
-        self.place = place or os.path.dirname(os.path.abspath(scenario))
+        self.place = os.path.abspath(place or os.path.dirname(os.path.abspath(scenario)))
         self.path = os.path.abspath(scenario)
         marks = {self.path: mark_of(self.path)}
         self.text = files.read_text(scenario).removeprefix(toml.BYTE_ORDER_MARK)
-        self.scenario = Scenario.of_text(self.text, files.shown(scenario))
+        self.scenario = Scenario.of_text(self.text, files.shown(scenario), self.place)
         self.limit, self.nodes = self.scenario.cycles, len(self.scenario.images)
         # Without the lines of its limit and window, which each window has of its own.
         self.rest = windowed(self.text, 0, 1).split("\n", 2)[2]

@@ -129,11 +129,13 @@ class Motion:
         if not action.alone:  # else gdb only passes over a breakpoint
             self.history.foresee(action.node, before.cycle)
         stop = self.stepped(action)
+        if action.alone:
+            self.unseen = self.unseen or before
+        if write := self.write_between(before, self.at, action.others):
+            return self.behind(write)
         if not action.alone and (other := self.point_of_others(before, action)):
             self.stand(other)
             return self.hit(None)
-        if action.alone:
-            self.unseen = self.unseen or before
         return stop
 
     def stepped(self, action: Action) -> Stop:
@@ -182,6 +184,21 @@ class Motion:
             rows = [(change.cycle, change.place.node) for change in self.seen_on(first, end, self.point_places(others))]
         return next((Place(*row) for row in rows if before < Place(*row) < self.at), None)
 
+    def write_between(self, before: Place, behind: Place, nodes: Sequence[int]) -> Write | None:
+        """The first write of what is watched in a step forwards, the last one in a step back."""
+        first, end = min(before, behind), max(before, behind)
+        changes = list(self.seen_on(first.cycle, end.cycle, self.watches.places(nodes))) if self.watches.here else []
+        writes = self.watches.writes(changes)
+        return None if not writes else writes[0] if before < behind else writes[-1]
+
+    def behind(self, write: Write) -> Stop:
+        """A step passed a write: it ends where the node goes on behind that, which is mostly where it ended."""
+        row = self.history.next_row(write.node, write.last)
+        if write.node != self.at.node or row is None or row.cycle < self.at.cycle:
+            return self.written(write)
+        self.told_write = (self.at, write)
+        return self.watch_stop(write)
+
     def seen_on(self, first: int, end: int, places: list[Seen]) -> Iterator[Change]:
         sightings = self.history.sightings
         for _, seen in sightings.searched(sightings.pieces_on(first, end), places):
@@ -204,8 +221,14 @@ class Motion:
             elif self.shows_interrupts or (
                 row.kind == "instr" and (not depth or self.is_point(node, row.address))
             ):
+                before = self.at
                 self.stand(Place(cycle, node), row.address)
                 self.history.foresee(node, cycle)
+                if write := self.write_between(before, self.at, [node]):
+                    last = self.history.last_row(node, write.first + 1)  # where the writing instruction begins
+                    if last and last.cycle > cycle:
+                        self.stand(Place(last.cycle, node), last.address)
+                    return self.watch_stop(write)
                 return Stop()
         return self.at_beginning()
 
