@@ -3,6 +3,7 @@ editor's machine interface."""
 import contextlib
 import json
 import os
+import random
 import re
 import signal
 import socket
@@ -11,6 +12,7 @@ import time
 
 import pytest
 
+from avrora_tools.debugging import history, motion, packets, ranges, session
 from firmware import compiled
 from gdb_driver import Gdb
 from support import LONG, LOOPBACK, TOOL, TOP, has_loopback
@@ -153,7 +155,7 @@ def test_interrupts_are_stepped_over_or_into(two):
 
     def slept():
         """Steps until a step takes long: what stands where it ends, and the cycles that it took."""
-        for _ in range(20):
+        for _ in range(300):
             before = where(two)[0]
             two.type("stepi")
             if (took := where(two)[0] - before) > 1_000:
@@ -167,6 +169,54 @@ def test_interrupts_are_stepped_over_or_into(two):
     two.type("stepi")
     two.type("stepi")
     assert two.type("info symbol $pc").text.startswith("__vector_12")
+
+
+def main_of(folder, name):
+    """The byte addresses of the function main."""
+    symbols = subprocess.run(["avr-nm", "-S", f"{name}.elf"], cwd=folder, capture_output=True, text=True, check=True).stdout
+    first, size = (int(text, 16) for text in re.search(r"^(\w+) (\w+) T main$", symbols, re.M).groups())
+    return first, first + size
+
+
+@needs_all
+def test_a_long_step_ends_where_the_short_ones_do(folder, monkeypatch):
+    """Of drawn ranges of instructions: by the ways out of them, and instruction by instruction."""
+    draw = random.Random(7)
+    with history.history(str(folder / "two.toml"), PROGRAM) as past:
+        one = session.Session(past, packets.Channel(-1, -1))
+        ends = []
+        for _ in range(24):
+            node, cycle = draw.randrange(3), past.limit - draw.randrange(30_000, 60_000)
+            row = past.next_row(node, cycle)
+            first, end = 2 * row.address - draw.choice([0, 4, 20]), 2 * row.address + draw.choice([2, 8, 40, 300])
+            if draw.random() < 0.7:  # the loop of main, in which the node sleeps
+                first, end = main_of(folder, "every_tick" if node == 1 else "total")
+            words = f"vCont;r{first:x},{end:x}:{node + 1:x};c".encode()
+            found = []
+            for long in (1, 10**9):
+                monkeypatch.setattr(motion, "LONG_STEP", long)
+                one.motion.stand(motion.Place(row.cycle, node))
+                answer = one.answered(words)
+                found.append((one.motion.at, re.sub(rb"(?:[0-9a-f]{2}:[0-9a-f]+;)+", b"", answer)))
+            assert found[0] == found[1], (row, words)
+            ends.append(found[0][0].cycle - row.cycle)
+        assert max(ends) > 1_000
+
+
+@pytest.mark.parametrize(
+    "text, first, end, wanted",
+    [
+        ("0000 0000", 0, 2, {1}),
+        ("ffcf", 0, 2, set()),  # rjmp .-2: a loop that nothing leaves
+        ("09f4 0000 0000", 0, 2, {1, 2}),  # brne .+2
+        ("0e940001 0895", 0, 4, {0x100, 2}),  # call 0x0100
+        ("0895", 0, 2, None),
+        ("0994", 0, 2, None),
+        ("00fd 0e940001 0000", 0, 2, {1, 3}),  # sbrc over an instruction of two words
+    ],
+)
+def test_ways_out_of_a_range(text, first, end, wanted):
+    assert ranges.ways_out(bytes.fromhex(text.replace(" ", "")) + bytes(8), first, end) == wanted
 
 
 # ---- many nodes, nodes that stop
@@ -199,14 +249,14 @@ def test_a_network_of_64(folder):
 
 @needs_all
 def test_a_node_that_stops_is_told_and_passed_back_over(tmp_path):
-    compiled("stops.c", tmp_path)
-    nodes = '[[node]]\nimage = "stops.hex"\n' * 2
+    compiled("breaks.c", tmp_path)
+    nodes = '[[node]]\nimage = "breaks.hex"\n' * 2
     inputs = "".join(f'[[input]]\nnode = {node}\nat = {at}\nhex = "41"\n' for node, at in ((1, 100_000), (0, 400_000)))
     (tmp_path / "stops.toml").write_text(f"version = 3\ncycles = 900_000\n{nodes}{inputs}", encoding="utf-8")
     rows = subprocess.run([PROGRAM, "run", "stops.toml"], cwd=tmp_path, capture_output=True, text=True, check=True).stdout
     stops = [(int(it[1]), int(it[2])) for it in re.finditer(r"^(\d+) (\d+) stop ", rows, re.M)]
     assert len(stops) == 2
-    with Gdb(tmp_path, "stops.elf") as one:
+    with Gdb(tmp_path, "breaks.elf") as one:
         one.connect("stops.toml", PROGRAM)
         for wanted in stops:
             said = one.type("continue")
@@ -318,8 +368,8 @@ def test_what_an_editor_sends(folder):
         assert one.ask("-file-exec-and-symbols total.elf").word == "done"
         remote = " ".join([*TOOL, "gdb", "--avrora", PROGRAM, "-e", "total.elf", "-e", "every_tick.elf", "two.toml"])
         assert one.ask(f"-target-select remote | {remote}").word in ("connected", "stopped")
-        found = one.ask("-break-insert -f total.c:9")
-        assert found.word == "done" and found.field("line") == "9"
+        found = one.ask("-break-insert -f total.c:10")
+        assert found.word == "done" and found.field("line") == "10"
         stopped = one.ask("-exec-continue")
         assert stopped.field("reason") == "breakpoint-hit" and stopped.field("func") == "take"
         threads = one.ask("-thread-info")

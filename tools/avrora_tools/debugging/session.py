@@ -69,8 +69,7 @@ class Session:
         self.history, self.channel = history, channel
         self.inferiors = inferiors or Inferiors(history.scenario)
         history.refuse_changes()
-        loaded = {image: images.load(os.path.join(history.place, image)) for image in self.inferiors.images}
-        self.flashes = [loaded[image] for image in history.scenario.images]
+        self.flashes = [history.flash(node) for node in self.nodes()]
         self.motion = Motion(history, Place(cycle, node), self.inferiors.of_node, channel.has_interrupt, self.tell)
         self.general = self.shown = node  # the node that gdb asks about; the one that its user looks at
         self.shown_before = node  # the choice before
