@@ -123,11 +123,11 @@ class History:
         """`folder` is one for files of its own, which whoever made it clears away; the run begins in the state of the
         file `state`, else at reset."""
         self.simulator, self.own = simulator, folder
-        self.place = place or os.path.dirname(os.path.abspath(scenario))
+        self.place = os.path.abspath(place or os.path.dirname(os.path.abspath(scenario)))
         self.path = os.path.abspath(scenario)
         marks = {self.path: mark_of(self.path)}
         self.text = files.read_text(scenario).removeprefix(toml.BYTE_ORDER_MARK)
-        self.scenario = Scenario.of_text(self.text, files.shown(scenario))
+        self.scenario = Scenario.of_text(self.text, files.shown(scenario), self.place)
         self.limit, self.nodes = self.scenario.cycles, len(self.scenario.images)
         # Without the lines of its limit and window, which each window has of its own.
         self.rest = windowed(self.text, 0, 1).split("\n", 2)[2]
@@ -152,6 +152,7 @@ class History:
         self.events = functools.lru_cache(KEPT_EPOCHS)(self.read_events)
         self.stopped_at = functools.lru_cache(KEPT_EPOCHS)(self.read_stopped)
         self.sleeps = functools.lru_cache(None)(self.read_sleeps)
+        self.flash_of = functools.lru_cache(None)(lambda image: images.load(os.path.join(self.place, image)))
 
     def close(self) -> None:
         """Waits for what is under way, since it has files in the folder."""
@@ -281,9 +282,12 @@ class History:
                 return seen[-1].cycle
         return None
 
+    def flash(self, node: int) -> bytes:
+        return self.flash_of(self.scenario.images[node])
+
     def read_sleeps(self, image: str) -> list[int]:
         """The word addresses of all that may be an instruction `sleep` in an image."""
-        flash = images.load(os.path.join(self.place, image))
+        flash = self.flash_of(image)
         return [at // 2 for at in range(0, len(flash), 2) if flash[at : at + 2] == SLEEP]
 
     # ---- a node in short spans

@@ -5,6 +5,7 @@ from typing import NamedTuple
 
 from avrora_tools.debugging import target
 from avrora_tools.debugging.history import STEP_SPAN, History, Traced
+from avrora_tools.debugging.ranges import ways_out
 from avrora_tools.debugging.sightings import Interrupted, Piece
 from avrora_tools.debugging.watchpoints import Watchpoints, Write
 from avrora_tools.observing.places import Change, Kind
@@ -14,6 +15,9 @@ TRAP, INTERRUPTED, ILLEGAL = 5, 2, 4  # numbers of signals, as gdb has them
 
 # Where so many breakpoints were met one behind another, what gdb asks of so many further ones is asked for ahead.
 HASTY, EXPECTED = 3, 3
+
+# Behind so many rows a step looks for the ways out of its range. It takes about as long as some hundred rows.
+LONG_STEP = 512
 
 # Behind so many rows a step looks whether gdb asks it to stop.
 ROWS_A_LOOK = 256
@@ -129,11 +133,13 @@ class Motion:
         if not action.alone:  # else gdb only passes over a breakpoint
             self.history.foresee(action.node, before.cycle)
         stop = self.stepped(action)
+        if action.alone:
+            self.unseen = self.unseen or before
+        if write := self.write_between(before, self.at, action.others):
+            return self.behind(write)
         if not action.alone and (other := self.point_of_others(before, action)):
             self.stand(other)
             return self.hit(None)
-        if action.alone:
-            self.unseen = self.unseen or before
         return stop
 
     def stepped(self, action: Action) -> Stop:
@@ -147,7 +153,38 @@ class Motion:
                 return Stop()
             if count % ROWS_A_LOOK == 0 and self.wants_stop():
                 return Stop(INTERRUPTED)
+            if count == LONG_STEP and not self.shows_interrupts and (stop := self.left(action)):
+                return stop
         return self.at_end()
+
+    def left(self, action: Action) -> Stop | None:
+        """A step whose range the node does not leave for long: to where it does; None where it may go anywhere."""
+        node, cycle = self.at.node, self.at.cycle
+        words = ways_out(self.history.flash(node), action.first, action.end)
+        if words is None:
+            return None
+        places = [*(Seen(node, Kind.AT, word) for word in words), *self.point_places([node])]
+        sightings = self.history.sightings
+        try:
+            for piece, seen in sightings.searched(sightings.pieces_on(cycle + 1, self.history.limit), places, self.wants_stop):
+                self.stand(Place(piece.first, node))
+                for one in seen:
+                    if self.is_point(node, one.place.address) or self.comes_from(action, node, one.cycle):
+                        self.stand(Place(one.cycle, node), one.place.address)
+                        self.history.foresee(node, one.cycle)
+                        return Stop()
+                for whose, row in self.history.stops(piece.first, piece.end):
+                    if whose == node:
+                        self.stand(Place(row.cycle, node), row.address)
+                        return self.stopped_by(row)
+        except Interrupted:
+            return Stop(INTERRUPTED)
+        return self.at_end()
+
+    def comes_from(self, action: Action, node: int, cycle: int) -> bool:
+        """Whether the instruction that a node executed before this one, interrupts aside, lies in the range of a step."""
+        row = self.executed_before(node, cycle)
+        return row is not None and action.first <= 2 * row.address < action.end
 
     def steps_from(self, cycle: int) -> Iterator[Traced]:
         """The node's rows behind a cycle; interrupts are stepped over, unless they are to be shown or a breakpoint lies
@@ -182,6 +219,21 @@ class Motion:
             rows = [(change.cycle, change.place.node) for change in self.seen_on(first, end, self.point_places(others))]
         return next((Place(*row) for row in rows if before < Place(*row) < self.at), None)
 
+    def write_between(self, before: Place, behind: Place, nodes: Sequence[int]) -> Write | None:
+        """The first write of what is watched in a step forwards, the last one in a step back."""
+        first, end = min(before, behind), max(before, behind)
+        changes = list(self.seen_on(first.cycle, end.cycle, self.watches.places(nodes))) if self.watches.here else []
+        writes = self.watches.writes(changes)
+        return None if not writes else writes[0] if before < behind else writes[-1]
+
+    def behind(self, write: Write) -> Stop:
+        """A step passed a write: it ends where the node goes on behind that, which is mostly where it ended."""
+        row = self.history.next_row(write.node, write.last)
+        if write.node != self.at.node or row is None or row.cycle < self.at.cycle:
+            return self.written(write)
+        self.told_write = (self.at, write)
+        return self.watch_stop(write)
+
     def seen_on(self, first: int, end: int, places: list[Seen]) -> Iterator[Change]:
         sightings = self.history.sightings
         for _, seen in sightings.searched(sightings.pieces_on(first, end), places):
@@ -192,7 +244,22 @@ class Motion:
         self.unseen = None
         self.stand(self.at._replace(node=node))
         self.history.foresee(node, self.at.cycle)
-        depth, cycle = 0, self.at.cycle
+        before = self.at
+        row = self.executed_before(node, before.cycle)
+        if row is None:
+            return self.at_beginning()
+        self.stand(Place(row.cycle, node), row.address)
+        self.history.foresee(node, row.cycle)
+        if write := self.write_between(before, self.at, [node]):
+            last = self.history.last_row(node, write.first + 1)  # where the writing instruction begins
+            if last and last.cycle > row.cycle:
+                self.stand(Place(last.cycle, node), last.address)
+            return self.watch_stop(write)
+        return Stop()
+
+    def executed_before(self, node: int, cycle: int) -> Traced | None:
+        """What a node executed last before a cycle, interrupts aside unless they are to be shown, or have a breakpoint."""
+        depth = 0
         while (row := self.history.last_row(node, cycle)) is not None:
             cycle = row.cycle
             if row.kind == "stop":
@@ -201,13 +268,9 @@ class Motion:
                 depth += 1
             elif depth and row.kind == "enter":
                 depth -= 1
-            elif self.shows_interrupts or (
-                row.kind == "instr" and (not depth or self.is_point(node, row.address))
-            ):
-                self.stand(Place(cycle, node), row.address)
-                self.history.foresee(node, cycle)
-                return Stop()
-        return self.at_beginning()
+            elif self.shows_interrupts or (row.kind == "instr" and (not depth or self.is_point(node, row.address))):
+                return row
+        return None
 
     # ---- on and on
 

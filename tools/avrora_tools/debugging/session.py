@@ -69,12 +69,11 @@ class Session:
         self.history, self.channel = history, channel
         self.inferiors = inferiors or Inferiors(history.scenario)
         history.refuse_changes()
-        loaded = {image: images.load(os.path.join(history.place, image)) for image in self.inferiors.images}
-        self.flashes = [loaded[image] for image in history.scenario.images]
+        self.flashes = [history.flash(node) for node in self.nodes()]
         self.motion = Motion(history, Place(cycle, node), self.inferiors.of_node, channel.has_interrupt, self.tell)
         self.general = self.shown = node  # the node that gdb asks about; the one that its user looks at
         self.shown_before = node  # the choice before
-        self.chosen: int | None = None  # the node that gdb lets go, where it said so
+        self.going = list(self.nodes())  # those that gdb lets go
         self.detached: set[int] = set()  # programs that gdb is done with
         self.words = Words(self)
         self.answers: list[tuple[bytes, Callable[[bytes], bytes | None]]] = [
@@ -111,9 +110,9 @@ class Session:
             (b"z1", self.clear_point),
             (b"z2", self.clear_watch),
             (b"bs", lambda _: self.told(self.motion.step_back(self.continuing()))),
-            (b"bc", lambda _: self.told(self.motion.go_back(self.nodes()))),
+            (b"bc", lambda _: self.told(self.motion.go_back(self.going))),
             (b"s", lambda _: self.told(self.motion.step(Action(True, 0, 0, True, self.continuing(), [])))),
-            (b"c", lambda _: self.told(self.motion.go_on(self.nodes()))),
+            (b"c", lambda _: self.told(self.motion.go_on(self.going))),
             (b"D", self.leave),
             (b"k", self.end),
         ]
@@ -169,7 +168,7 @@ class Session:
 
     def told(self, stop: Stop) -> bytes:
         node = self.general = self.shown = self.shown_before = self.motion.at.node
-        self.chosen = None
+        self.going = list(self.nodes())
         thread = self.inferiors.thread(node)
         return f"T{stop.signal:02x}thread:{thread};{self.known_registers(node)}{stop.more}".encode()
 
@@ -261,7 +260,7 @@ class Session:
             return b"E.no such node"
         one = packet[2:] not in (b"", b"0", b"-1") and len(found) == 1
         if packet[1:2] == b"c":
-            self.chosen = found[0] if one else None
+            self.going = found
         elif one:
             self.shown_before = self.shown
             self.general = self.shown = found[0]
@@ -319,7 +318,7 @@ class Session:
 
     def continuing(self) -> int:
         """The node that moves where a packet names none."""
-        return self.general if self.chosen is None else self.chosen
+        return self.going[0] if len(self.going) == 1 else self.general
 
 
 def range_of(packet: bytes) -> Range:

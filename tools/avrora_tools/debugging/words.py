@@ -90,7 +90,7 @@ class Words:
         return self.here()
 
     def here(self) -> str:
-        return f"cycle {self.motion.at.cycle:,}, node {self.session.shown}"
+        return f"cycle {self.motion.at.cycle:,}, node {self.motion.at.node}"
 
     def cycle(self, words: list[str]) -> str:
         nodes = [f"node {node}: {self.session.about(node).partition(', ')[2]}" for node in self.session.nodes()]

@@ -93,7 +93,7 @@ function makeTimeline(data) {
     const source = programs ? ` | avrora-tools annotate -s ${scenario} ${programs}` : "";
     const found = [`avrora-tools window ${scenario} ${span}${source}`];
     if (kind === "clash" && trace) found.push(`avrora-tools links --clashes ${scenario} ${trace}`);
-    if (kind === "stop") found.push(`avrora-tools gdb ${scenario}`);
+    found.push(`avrora-tools gdb --at ${cycle} --node ${node.node}${programs ? " " + programs : ""} ${scenario}`);
     return found;
   }
 
