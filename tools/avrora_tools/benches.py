@@ -110,7 +110,6 @@ class Bench:
         sick = None
         begun = time.monotonic()
         places = itertools.count()
-        jobs = [Job(*job) for job in jobs]  # by dask they come as plain tuples
 
         def made_together(job: Job) -> tuple[str | int, ...]:
             return (job.scenario, job.check, job.moves[0]) if job.moves else (next(places),)
