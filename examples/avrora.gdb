@@ -2,6 +2,10 @@
 # They are those of `monitor help`, and show where one stands then. See docs/DEBUGGING.md.
 set pagination off
 set architecture avr:5
+set sysroot /
+set remotetimeout 60
+# All nodes go on together, also those with another image.
+set schedule-multiple on
 
 define avrora-show
     maintenance flush register-cache

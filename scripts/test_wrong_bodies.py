@@ -1,5 +1,6 @@
 #!/usr/bin/env python3
-"""Tests what scripts/wrong_bodies.py makes of a crate, without the checker: which bodies, and how they are put into a copy.
+"""Tests what scripts/wrong_bodies.py makes of a crate, without the checker: which bodies, how they are put into a copy, and how
+the checker is asked.
 
     scripts/test_wrong_bodies.py    exit status: 0 all is as it should be, 1 something is not
 """
@@ -8,6 +9,7 @@ import sys
 import tempfile
 import unittest
 from pathlib import Path
+from unittest import mock
 
 sys.dont_write_bytecode = True
 import wrong_bodies as made  # noqa: E402 (it lies beside this file)
@@ -109,6 +111,43 @@ class Bodies(unittest.TestCase):
         taken, rest = trial.batch(self.wrongs)
         self.assertEqual(len(taken), 1)
         self.assertEqual(len(taken) + len(rest), len(self.wrongs))
+
+
+class FakeKit:
+    """Where a kit would be; nothing of it is run."""
+
+    folder, identity = "/kit", "a kit"
+
+    @staticmethod
+    def library(name):
+        return f"/kit/rlibs/{name}.rlib"
+
+
+class Asked(unittest.TestCase):
+    """What the checker is given, and what is read of what it says."""
+
+    def setUp(self):
+        self.folder = Path(tempfile.mkdtemp(prefix="bodies-"))
+        self.addCleanup(shutil.rmtree, self.folder)
+        with mock.patch.object(made.prove, "Kit", FakeKit), mock.patch.object(made.prove, "prove") as prove:
+            self.checker = made.Checker("changes_text", self.folder)
+        self.below = prove.call_args.args[1]
+
+    def test_the_libraries_below_are_made_first(self):
+        self.assertEqual(set(self.below), {"node_places", "sim_io"})
+
+    def test_it_is_asked_of_some_functions_of_a_copy(self):
+        said = "fn changes_text::texts::line: proved\nfn changes_text::texts::all: no proof\nsrc/texts.rt:7:5: error: a word\n"
+        with mock.patch.object(made.subprocess, "run", return_value=mock.Mock(stdout=said, stderr="")) as run:
+            answers, front, _ = self.checker.say(self.folder, ["texts::line", "texts::all"])
+        words = run.call_args.args[0]
+        self.assertEqual(words[:2], ["/kit/bin/rattle", "check"])
+        self.assertEqual([words[at + 1] for at, it in enumerate(words) if it == "--only"], ["texts::line", "texts::all"])
+        self.assertEqual(words[words.index("--crate-name") + 1], "changes_text")
+        self.assertIn(f"node_places={self.folder.resolve()}/node_places.rlib", words)
+        self.assertEqual(run.call_args.kwargs["cwd"], self.folder)
+        self.assertEqual(answers, {"texts::line": "proved", "texts::all": "no proof"})
+        self.assertEqual(front, [("texts.rt", 7)])
 
 
 if __name__ == "__main__":

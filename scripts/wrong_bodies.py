@@ -282,7 +282,7 @@ class Checker:
     def say(self, tree, only):
         """What the checker says of these functions of a copy, or of all: by their names, and the lines of the front end."""
         kit = self.room.kit.folder
-        words = [f"{kit}/bin/rattle", "check", *self.room.given(self.crate, 1), "--incremental", str(self.kept)]
+        words = [f"{kit}/bin/rattle", "check", *prove.given(self.room, self.crate, 1), "--incremental", str(self.kept)]
         for name in only:
             words += ["--only", name]
         ran = subprocess.run(words, cwd=tree, stdin=subprocess.DEVNULL, capture_output=True, text=True, errors="replace", check=False)

@@ -110,10 +110,9 @@ class Bench:
         sick = None
         begun = time.monotonic()
         places = itertools.count()
-        jobs = [Job(*job) for job in jobs]  # by dask they come as plain tuples
 
-        def made_together(job: Job) -> str:
-            return repr(job[:2]) + str(job.moves[0]) if job.moves else str(next(places))
+        def made_together(job: Job) -> tuple[str | int, ...]:
+            return (job.scenario, job.check, job.moves[0]) if job.moves else (next(places),)
 
         for _, alike in itertools.groupby(jobs, made_together):
             group = list(alike)

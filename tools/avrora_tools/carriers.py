@@ -104,12 +104,15 @@ def for_dask(name: str, shipment: Shipment) -> tuple[Any, Any, Any]:
             self.connection.send_bytes(packed_shipment)
             self.connection.send(self.folder)
 
-        def received(self) -> Any:
-            """What the process sends next; it sends from time to time that it is there."""
+        def received(self) -> bytes:
+            """What the process sends next, pickled as it came; it sends from time to time that it is there."""
+            import pickle
+
+            packed_tick = pickle.dumps(tick)
             try:
                 while self.connection.poll(silent_seconds):
-                    message = self.connection.recv()
-                    if message != tick:
+                    message: bytes = self.connection.recv_bytes()
+                    if message != packed_tick:
                         return message
             except (EOFError, OSError):
                 raise RuntimeError(f"its process ended with status {self.end()}") from None
@@ -117,23 +120,26 @@ def for_dask(name: str, shipment: Shipment) -> tuple[Any, Any, Any]:
             raise RuntimeError(f"its process gave no sign for {silent_seconds:.0f} s")
 
         def prove(self) -> list[Any]:
+            import pickle
             import socket
 
             with self.lock:
                 try:
                     self.end()
                     self.begin()
-                    return [socket.gethostname(), self.received()]
+                    return [socket.gethostname(), pickle.loads(self.received())]
                 except RuntimeError as fault:
                     return [socket.gethostname(), str(fault)]
                 except OSError as fault:
                     reason = f"{fault.filename}: {fault.strerror}" if fault.filename else str(fault)
                     return [socket.gethostname(), reason]
 
-        def run_batch(self, jobs: Any) -> Any:
+        def run_batch(self, jobs: bytes) -> bytes:
+            """Jobs and answers go through as they are pickled: dask looks into all else, which takes longer than a short
+            run."""
             with self.lock:
                 try:
-                    self.connection.send(jobs)
+                    self.connection.send_bytes(jobs)
                 except OSError:
                     pass  # it has ended, which is seen when its answers are waited for
                 return self.received()

@@ -65,6 +65,12 @@ def add_simulator(parser: argparse.ArgumentParser) -> None:
     )
 
 
+def add_watch(parser: argparse.ArgumentParser) -> None:
+    parser.add_argument(
+        "--watch", action="append", default=[], metavar="NAME", help="a variable or register, or a pattern: 'queue*'"
+    )
+
+
 def simulator(path: str | None = None) -> str:
     """The program to run: `path`, else what the environment names, else `avrora` at the top of this repository."""
     named = path or os.environ.get(PROGRAM_VARIABLE) or os.environ.get(SIMULATOR_VARIABLE)

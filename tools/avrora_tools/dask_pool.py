@@ -80,8 +80,7 @@ class DaskPool:
 
     def send(self, worker: Worker, ticket: int, jobs: Sequence[runs.Job]) -> None:
         assert isinstance(worker, DaskWorker)
-        plain = [tuple(job) for job in jobs]  # a worker of dask has nothing of this package
-        worker.tickets[ticket] = self.submit(worker, ticket, self.run_batch, plain)
+        worker.tickets[ticket] = self.submit(worker, ticket, self.run_batch, pickle.dumps(jobs))
 
     def wait(self, seconds: float) -> list[Event]:
         events = self.look()
@@ -144,6 +143,8 @@ class DaskPool:
             return self.failed(worker, ticket, reason)
         try:
             found = future.result(timeout=FETCH_SECONDS)
+            if ticket is not None:
+                found = pickle.loads(found)
         except Exception as fault:  # whatever took the worker between the end of a batch and its way here
             return self.failed(worker, ticket, f"{type(fault).__name__}: {fault}")
         if ticket is None:

@@ -12,6 +12,7 @@ from avrora_tools.instructions import SLEEP
 from avrora_tools.scenarios import DEFAULT_TIME, Scenario
 from avrora_tools.showing import printable
 from avrora_tools.traces import LAST_LIMIT, Trace
+from avrora_tools.tracks import Track
 
 MAX_WAYS = 250  # lines from sends to where they were heard
 
@@ -19,6 +20,8 @@ LONGEST_INSTRUCTION = 6  # no instruction takes so many cycles
 
 # What is drawn of a node, each kind with how many numbers an event of it has, of which the first is its cycle.
 FIELDS = {"sent": 2, "heard": 4, "clash": 3, "quiet": 1, "serial": 2, "lines": 3, "asleep": 2, "enter": 2, "stop": 2}
+
+TRACK = "track"  # the kind of what variables are over time, which are no events
 
 # An event that is drawn: its cycle, and what its kind has more.
 Drawn = tuple[Any, ...]
@@ -58,6 +61,7 @@ class Lane:
         self.fell_asleep: int | None = None
         self.last_instruction: tuple[int, int] | None = None  # its cycle, its address
         self.where: dict[int, str] = {}  # by the cycle of an event: which line of source was executed
+        self.tracks: list[Track] = []  # of variables and registers
         self.rest: list[int] = []  # in how many cycles of each span of the drawing it slept
 
     def events(self, kind: str) -> Iterable[Drawn]:
@@ -267,6 +271,10 @@ class Thinning(NamedTuple):
         events = lane.events(kind)
         return thinned(events, self.step) if kind in self.kinds else events
 
+    def of_tracks(self, lane: Lane) -> list[dict[str, Any]]:
+        """What is kept of the tracks, as data of a page."""
+        return [track.content(self.step if TRACK in self.kinds else 0) for track in lane.tracks]
+
     def __str__(self) -> str:
         words = ", ".join(WORDS[kind] for kind in self.kinds)
         return f"thinned to one in {self.step:,} cycles: {words}" if self.step else ""
@@ -280,6 +288,7 @@ WORDS = {
     "serial": "USART0",
     "lines": "lines of USART0",
     "sent": "sent",
+    TRACK: "variables",
     "clash": "clashes",
 }
 
@@ -287,18 +296,20 @@ WORDS = {
 THINNED = (
     ("quiet",),
     ("quiet", "enter", "asleep"),
-    ("quiet", "enter", "asleep", "heard", "serial", "lines", "sent"),
-    ("quiet", "enter", "asleep", "heard", "serial", "lines", "sent", "clash"),
+    ("quiet", "enter", "asleep", TRACK),
+    ("quiet", "enter", "asleep", TRACK, "heard", "serial", "lines", "sent"),
+    ("quiet", "enter", "asleep", TRACK, "heard", "serial", "lines", "sent", "clash"),
 )
 
 FINEST, COARSEST = 1 << 14, 1 << 9  # in how many parts a thinning divides what is drawn
 
 
-def thinnings(drawing: Drawing) -> Iterator[Thinning]:
+def thinnings(drawing: Drawing, has_tracks: bool) -> Iterator[Thinning]:
     """None, and then more and more of it."""
     yield Thinning()
     span = drawing.last_cycle - drawing.first
-    for kinds in THINNED:
+    for every in THINNED:
+        kinds = tuple(kind for kind in every if has_tracks or kind != TRACK)
         parts = FINEST
         while parts >= COARSEST:
             yield Thinning(kinds, max(1, span // parts))
@@ -313,8 +324,9 @@ def least_thinning(drawing: Drawing, most: int) -> Thinning:
     """The first thinning with which the events take at most so many bytes as JSON; the coarsest where none does."""
     sizes: dict[tuple[str, int], int] = {}
     thinning = Thinning()
-    for thinning in thinnings(drawing):
-        steps = [(kind, thinning.step if kind in thinning.kinds else 0) for kind in FIELDS]
+    has_tracks = any(lane.tracks for lane in drawing.lanes.values())
+    for thinning in thinnings(drawing, has_tracks):
+        steps = [(kind, thinning.step if kind in thinning.kinds else 0) for kind in (*FIELDS, TRACK)]
         for kind, step in steps:
             if (kind, step) not in sizes:
                 sizes[kind, step] = sum(size_of(kind, thinning, lane) for lane in drawing.lanes.values())
@@ -325,6 +337,9 @@ def least_thinning(drawing: Drawing, most: int) -> Thinning:
 
 def size_of(kind: str, thinning: Thinning, lane: Lane) -> int:
     """How many bytes the events of a kind take as JSON, without the brackets about them."""
+    if kind == TRACK:
+        step = thinning.step if TRACK in thinning.kinds else 0
+        return sum(track.size(step) + len(",") for track in lane.tracks)
     return len(json.dumps(flat(thinning.of(kind, lane), kind), separators=(",", ":"))) - len("[]")
 
 

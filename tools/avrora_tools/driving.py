@@ -172,13 +172,14 @@ class Driver:
 
     def may_have(self, worker: Worker, attempt: Attempt) -> bool:
         """Whether a worker may get a run that is begun again: no worker that it is to avoid, and of another machine
-        where there is one, as long as there is hope of that."""
+        where there is one, as long as there is hope of that. One that ended and was started again has its name."""
         if not attempt.avoid:
             return True
-        if len(self.crew) == 1:  # nobody confirms himself where others may yet come
-            return not attempt.opinions or not self.pool.unproved()
-        if worker in attempt.avoid:
-            return self.clock() - attempt.since > OTHER_SECONDS and not attempt.opinions
+        if worker.name in [it.name for it in attempt.avoid]:
+            if len(self.crew) == 1 and not self.hopes_for_others():
+                return True
+            # Nobody confirms himself; and what came to nothing waits for others, which may still prove themselves.
+            return not attempt.opinions and self.clock() - attempt.since > OTHER_SECONDS
         machines = {it.machine for it in attempt.avoid if it in self.crew}
         return worker.machine not in machines or len(self.crew.machines) <= len(machines)
 

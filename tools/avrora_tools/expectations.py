@@ -30,6 +30,7 @@ from avrora_tools.cases import (
 from avrora_tools.errors import BadInput, CannotWork, Status, ToolError
 from avrora_tools.events import KINDS, TRACED, Serial, event_of
 from avrora_tools.fields import EVERY, Span, cover
+from avrora_tools.opening import Where, debug_command
 from avrora_tools.patterns import Extent, Place
 from avrora_tools.scenarios import BYTE_TIME, MAX_WINDOW, Scenario
 from avrora_tools.wholeness import Lacking
@@ -83,6 +84,7 @@ class Report:
     def __init__(self, statement: Statement, why: str, details: Iterable[str] = ()) -> None:
         self.statement, self.why, self.details = statement, why, list(details)
         self.row: traces.TraceRow | None = None
+        self.instead: traces.TraceRow | None = None  # what came in place of what is missing, or else before it
         self.before: list[traces.TraceRow] = []
         self.after: list[traces.TraceRow] = []
         self.again = 0  # how often it happened once more
@@ -90,6 +92,12 @@ class Report:
     def show_after(self, row: traces.TraceRow) -> None:
         if self.row is not row and len(self.after) < CONTEXT:
             self.after.append(row)
+
+    @property
+    def where(self) -> Where | None:
+        """Where one looks first: at the row that was not to come, or came instead; else at the one found last before."""
+        row = self.row or self.instead
+        return Where(row[0], row[1]) if row else None
 
     def text(self, path: str) -> str:
         lines = [f"{path}, line {self.statement.line}: {self.why}", *self.details]
@@ -199,7 +207,9 @@ class Sequence:
             details += [f"+ {line_of(row)}" for row in self.between]
         elif expected.most is None:
             details += ["and none of its node and kind"]
-        return Report(expected, f"this row {what}:", details)
+        report = Report(expected, f"this row {what}:", details)
+        report.instead = self.between[0] if self.between else self.found
+        return report
 
 
 def rows_on(most: int) -> str:
@@ -456,12 +466,24 @@ def check(
         if not reports:
             refuse_gaps(case, extent, gaps)
         reports.sort(key=lambda report: report.statement.line)
-        failures = [showing.printable_lines(report.text(files.shown(case.path))) for report in reports]
+        failures = [
+            showing.printable_lines("\n".join([report.text(files.shown(case.path)), *opened(case, report.where)]))
+            for report in reports
+        ]
         failures += conditions() if conditions else []
         if failures:
             raise Unmet
     status = Status.NOT_MET if failures else Status.GOOD
     return Outcome("\n".join(failures) or None, looked, len(case.statements), status)
+
+
+def opened(case: Case, where: Where | None) -> list[str]:
+    """The line that says how to open gdb there, where the case runs a scenario."""
+    if where is None or case.source is None or case.source[0] != "run":
+        return []
+    parts = (word.rpartition("=") for word in case.elfs)
+    elfs = [f"{nodes}{sign}{os.path.join(case.folder, path)}" for nodes, sign, path in parts]
+    return [f"debug: {debug_command(os.path.join(case.folder, case.source[1]), where, elfs)}"]
 
 
 def whole_trace(trace: traces.Trace, blocks: Iterator[bytes], ended: Ended) -> Iterator[traces.TraceRow]:

@@ -144,8 +144,8 @@ class Judge:
         if len(same) > 1:
             self.agreed(attempt, answer, same)
             return
-        asked = [known for known, _ in opinions]
-        is_other = any(it not in asked for it in self.crew.workers) or self.shares.hopes_for_others()
+        asked = {known.name for known, _ in opinions}
+        is_other = any(it.name not in asked for it in self.crew.workers) or self.shares.hopes_for_others()
         if len(opinions) == 1 and not self.arbiter:
             is_other = True  # the same one, where there is no other
         if is_other and len(opinions) < MOST_OPINIONS:

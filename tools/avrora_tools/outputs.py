@@ -46,13 +46,13 @@ def is_whole(trace: io.FileIO, ends: Ends | None) -> bool:
 def packed(trace: io.FileIO, kinds: Sequence[bytes] = ()) -> bytes:
     """A file in gzip's format, without a time in it; of its rows those with one of these in them."""
     trace.seek(0)
+    if kinds:
+        rows = trace.readall().splitlines(keepends=True)
+        kept = b"".join(row for row in rows if any(kind in row for kind in kinds))
+        return gzip.compress(kept, compresslevel=1, mtime=0)
     out = io.BytesIO()
-    with gzip.GzipFile(fileobj=out, mode="wb", mtime=0, compresslevel=1 if kinds else 6) as file:
-        if kinds:
-            rows = trace.readall().splitlines(keepends=True)
-            file.writelines(row for row in rows if any(kind in row for kind in kinds))
-        else:
-            shutil.copyfileobj(trace, file)
+    with gzip.GzipFile(fileobj=out, mode="wb", mtime=0, compresslevel=6) as file:
+        shutil.copyfileobj(trace, file)
     return out.getvalue()
 
 

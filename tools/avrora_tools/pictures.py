@@ -4,7 +4,7 @@ from fractions import Fraction
 
 from avrora_tools import cli, drawings, lines, showing
 from avrora_tools.drawings import Drawing, Lane
-from avrora_tools.reporting import palette
+from avrora_tools.reporting import palette, wave_pictures
 from avrora_tools.reporting.bars import round_step
 
 
@@ -12,12 +12,14 @@ from avrora_tools.reporting.bars import round_step
 RULES: list[palette.Rule] = [
     ("text", "fill", "ink"), (".paper", "fill", "paper"), (".grid", "stroke", "rule"), (".line", "stroke", "panel"),
     *((f".{name}", "fill", name) for name in ("sent", "serial", "asleep", "stopped", "stop", "closed", "window")),
+    (".wave", "fill", "track"), (".level", "stroke", "track"), (".named", "fill", "faint"),
     *((f".{name}", "stroke", name) for name in ("heard", "clash", "quiet", "enter")),
     *((f".p-{name}", "stroke", name) for name in ("sent", "heard", "clash", "quiet", "serial")),
     (".way", "stroke", "clash"), (".hop", "stroke", "heard"), (".said", "fill", "serial"),
 ]  # fmt: skip
 WIDTHS = """.heard{stroke-width:1.3}.clash{stroke-width:1.8}.quiet{stroke-width:.7}.enter{stroke-width:.8}
-.way{stroke-width:.7;opacity:.55;stroke-dasharray:4 2}.hop{stroke-width:.6;opacity:.45}.said{font-family:monospace}"""
+.way{stroke-width:.7;opacity:.55;stroke-dasharray:4 2}.hop{stroke-width:.6;opacity:.45}.said,.value{font-family:monospace}
+.wave{fill-opacity:.2}.level{fill:none}"""
 
 MAX_TITLED = 20_000  # events that each have a text of their own to hover
 LEAST_MARGIN, MOST_MARGIN = 92, 260  # left of the cycles, in pixels
@@ -38,11 +40,17 @@ class Picture:
         self.nodes = sorted(drawing.lanes)
         self.row = {node: number for number, node in enumerate(self.nodes)}
         self.step = 12 if len(self.nodes) > 32 else 18 if len(self.nodes) > 16 else 26 if len(self.nodes) > 6 else 38
-        longest = max((len(drawing.name(node)) for node in self.nodes), default=0)
+        names = [drawing.name(node) for node in self.nodes]
+        names += [track.name for node in self.nodes for track in drawing.lanes[node].tracks]
+        longest = max(map(len, names), default=0)
         self.margin = int(min(MOST_MARGIN, max(LEAST_MARGIN, LETTER * longest + 8)))
         self.legend = self.legend_rows()
-        self.height = TOP + self.step * len(self.nodes) + BOTTOM + LEGEND_ROW * (len(self.legend) - 1)
-        self.bottom = TOP + self.step * len(self.nodes)
+        self.tops: dict[int, int] = {}
+        self.bottom = TOP
+        for node in self.nodes:
+            self.tops[node] = self.bottom
+            self.bottom += self.step + wave_pictures.ROW * len(drawing.lanes[node].tracks)
+        self.height = self.bottom + BOTTOM + LEGEND_ROW * (len(self.legend) - 1)
         self.scale = (width - self.margin - RIGHT) / max(1, drawing.last_cycle - drawing.first)
         kinds = [kind for kind in drawings.FIELDS if kind != "lines"]
         self.count = sum(lane.count(*kinds) for lane in drawing.lanes.values())
@@ -58,6 +66,7 @@ class Picture:
         self.draw_grid()
         for node in self.nodes:
             self.draw_lane(node)
+            self.draw_tracks(node)
         self.draw_ways()
         self.draw_legend()
         return "\n".join(self.out) + "\n</svg>\n"
@@ -70,7 +79,7 @@ class Picture:
         )
 
     def y(self, node: int) -> int:
-        return TOP + self.row[node] * self.step
+        return self.tops[node]
 
     def draw_grid(self) -> None:
         first, last = self.drawing.first, self.drawing.last_cycle
@@ -119,6 +128,16 @@ class Picture:
                 f'<path class="stop" d="M{self.x(cycle)} {y}l8 {high / 2}l-8 {high / 2}z"',
                 f"{cycle:,}: node {node} stopped at {cause}",
             )
+
+    def draw_tracks(self, node: int) -> None:
+        """The variables of a node, a row each below it."""
+        for number, track in enumerate(self.drawing.lanes[node].tracks):
+            top = self.y(node) + self.step + number * wave_pictures.ROW
+            name = showing.markup(shortened(track.name, int((self.margin - 8) / LETTER)))
+            self.out.append(
+                f'<text class="named" x="{self.margin - 6}" y="{top + wave_pictures.BASE}" text-anchor="end">{name}</text>'
+            )
+            self.out += wave_pictures.shapes(track, node, top, self.x, self.drawing.last_cycle)
 
     def add(self, tag: str, title: str) -> None:
         self.out.append(f"{tag}><title>{showing.markup(title)}</title></{tag[1:].split()[0]}>")
@@ -222,6 +241,8 @@ class Picture:
             for entry in SIGNS
             if "closed" not in entry[0] or any(self.drawing.closed(node) for node in self.nodes)
         ]
+        if any(self.drawing.lanes[node].tracks for node in self.nodes):
+            entries.append(('<rect class="wave" x="{x}" y="{top}" width="16" height="8"/>', "a variable"))
         entries.append(("", f"cycles {self.drawing.first:,} to {self.drawing.last_cycle:,}"))
         rows: list[list[tuple[str, str]]] = [[]]
         room = float(self.width - self.margin - RIGHT)

@@ -8,6 +8,8 @@ import html
 import json
 import os
 import re
+import shlex
+from collections.abc import Iterable
 
 # The name that stands for the standard input, or the standard output.
 STANDARD_STREAM = "-"
@@ -51,6 +53,34 @@ def escaped(character: str) -> str:
     if number in BYTES:
         return f"\\x{number - 0xDC00:02x}"
     return f"\\x{number:02X}" if number < 0x100 else f"\\u{number:04X}" if number < 0x1_0000 else f"\\U{number:08X}"
+
+
+def shell_word(text: str) -> str:
+    """A text as one word of a line for bash, which the line may be shown to a terminal or a log with: `$'\\x1B'` has
+    what `printable` would tell by its number."""
+    if printable(text) == text:
+        return shlex.quote(text)
+    parts = (
+        character if character.isprintable() and character not in "'\\" else in_bytes(character)
+        for character in decoded(text)
+    )
+    return "$'" + COMMAND.sub(r"#\\x23", "".join(parts)) + "'"
+
+
+def in_bytes(character: str) -> str:
+    number = ord(character)
+    encoding = bytes([number - 0xDC00]) if number in BYTES else character.encode("utf-8", "surrogatepass")
+    return "".join(f"\\x{byte:02X}" for byte in encoding)
+
+
+def shell_folder(name: str) -> str:
+    """A folder as `shell_word` has it, for `cd`, which takes a name with a minus for an option."""
+    return shell_word(f"./{name}" if name.startswith("-") else name)
+
+
+def shell_line(words: Iterable[str]) -> str:
+    """A line for bash, as `shell_word` has its words."""
+    return " ".join(map(shell_word, words))
 
 
 def markup(text: str) -> str:

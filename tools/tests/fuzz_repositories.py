@@ -23,6 +23,7 @@ import repositories  # noqa: E402
 from avrora_tools import main, runs, writing  # noqa: E402
 
 COUNT, SEED, FIRST = 10_000, 1, 0
+PROGRAM = os.environ.get("AVRORA_PROGRAM")
 
 # Stands for the simulator: each run but that by which a worker proves itself sends a byte in the cycle of its latency.
 SIMULATOR = f"""#!{sys.executable} -IS
@@ -100,6 +101,32 @@ CAMPAIGNS = [
     "campaign --jobs 1 --anew @c.campaign",
 ]
 
+# Calls of what asks the simulator more than a run: made by the program that AVRORA_PROGRAM names, where it names one.
+# % is a copy of the relay's scenario under a name of the stranger's.
+OF_THE_PROGRAM = [
+    "changes -e @relay.elf --force -n 0 -w * @%",
+    "changes -e @relay.elf --force --breaks ring[0]==0||head<9 @%",
+    "changes --breaks PORTB==0 --state @net.state @%",
+    "changes -e @relay.elf --force --last-before 30_000 -w r* @relay.toml",
+    "when -e @relay.elf --force @% 0 relay.c:24",
+    "when @% 0 00BC",
+    "hunt --rounds 1 --minutes 1 --jobs 1 --only starts @%",
+    "hunt -e @relay.elf --force --rounds 1 --minutes 1 --jobs 1 --only latencies --corpus @relay.hunt @%",
+    "hunt --rounds 1 --minutes 1 --jobs 1 --only starts --expect @r.expect @%",
+    "sweep --start 0=5_000..5_004 --jobs 1 --resume @sweep.log @%",
+    "sweep --start 0=5_000..5_004 --jobs 1 --out @out/earliest.toml --html @out.html --findings @out.xml @%",
+    "sweep --start 0=5_000..5_004 --jobs 1 -e @relay.elf --force --until 9_000 --out @early.toml @%",
+    "sweep --latency 0-1=900..904 --jobs 1 --until 9_000 --expect @r.expect @%",
+    "sweep --start 0=5_000..5_002 --jobs 1 -e @relay.elf --force --until 9_000 --always 0,ring[0]!=114 @%",
+    "report -e @relay.elf --force -o @out.html @%",
+    "rerun --runs 1 @r.expect @% -- true",
+    "expect @r.expect",
+    "inspect -e @relay.elf --force -g * @net.state",
+    "gdb --at 9_000 -e @relay.elf @%",
+    "window @% 3_000 3_050",
+    "energy -s @% @relay.trace",
+]
+
 STATE = "avrora state 1\ncycle 262144\ncore 0 {}\ntimers 0 {}\nports 0 {}\nio 0 {}\nsram 0 {}\nend\n".format(
     " ".join("0" * 41), " ".join("0" * 38), " ".join("0" * 29), "0" * 448, "0" * 8192
 )
@@ -108,7 +135,9 @@ STATE = "avrora state 1\ncycle 262144\ncore 0 {}\ntimers 0 {}\nports 0 {}\nio 0 
 def words_of(world):
     """The words of a call, and the folder in which it is made."""
     draw = world.draw
-    text = draw.choice(CAMPAIGNS if world.has_campaign and draw.random() < 0.7 else CALLS)
+    calls = CALLS + OF_THE_PROGRAM if PROGRAM else CALLS
+    text = draw.choice(CAMPAIGNS if world.has_campaign and draw.random() < 0.7 else calls)
+    world.asks_program = text in OF_THE_PROGRAM
     folder, at = draw.choice(
         [
             (world.repo, ""),
@@ -118,7 +147,7 @@ def words_of(world):
             ("/", f"{world.repo}/"),
         ]
     )
-    return folder, [word.replace("@", at) for word in text.split()]
+    return folder, [word.replace("@", at).replace("%", world.odd_scenario).replace(",", " ") for word in text.split()]
 
 
 def call(world, folder, words):
@@ -152,8 +181,8 @@ def be(world, folder, words, out, errors):
             HOME=world.home,
             XDG_STATE_HOME=f"{world.place}/state",
             TMPDIR=f"{world.place}/tmp",
-            AVRORA=f"{world.place}/avrora",
-            AVRORA_PROGRAM=f"{world.place}/avrora",
+            AVRORA=PROGRAM if world.asks_program else f"{world.place}/avrora",
+            AVRORA_PROGRAM=PROGRAM if world.asks_program else f"{world.place}/avrora",
             PATH=f".:{os.environ['PATH']}",
         )
         tempfile.tempdir = None

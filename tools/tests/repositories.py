@@ -1,4 +1,5 @@
 """Repositories of a stranger, drawn by a seed: what is in them, and beside them the home of a victim."""
+import json
 import os
 import pathlib
 import random
@@ -79,6 +80,7 @@ class World:
         self.place, self.draw = place, random.Random(seed)
         self.home, self.repo, self.ran = f"{place}/home", f"{place}/repo", f"{place}/ran"
         self.has_campaign, self.shared = False, set()
+        self.odd_scenario, self.asks_program = "", False
         for name, text in HOME.items():
             self.write(f"{self.home}/{name}", text)
         for folder in (self.ran, f"{place}/state", f"{place}/tmp"):
@@ -175,9 +177,10 @@ class World:
         )
         self.write(f"{self.repo}/a.expect", self.case())
         self.elf()
-        for name in ("out.html", "out.svg", "out.xml", "out", "junit.xml", "golden.rows", "build"):
+        for name in ("out.html", "out.svg", "out.xml", "out", "junit.xml", "golden.rows", "build", "early.toml"):
             if draw.random() < 0.4:
                 self.odd(name)
+        self.searches()
         if draw.random() < 0.5:
             self.campaign(image)
 
@@ -237,11 +240,53 @@ class World:
         )
         return "\n".join(lines) + "\n"
 
+    def searches(self):
+        """What `hunt`, `sweep`, `when` and `changes` read and write: a scenario of an odd name, the corpus of an
+        earlier hunt, the journal of an earlier sweep, a case with conditions."""
+        draw = self.draw
+        self.odd_scenario = f"{self.name()}.toml" if draw.random() < 0.8 else "relay.toml"
+        if self.odd_scenario != "relay.toml":
+            folder = os.path.dirname(self.odd_scenario)
+            os.makedirs(f"{self.repo}/{folder}", exist_ok=True)
+            shutil.copy(f"{DATA}/relay.toml", f"{self.repo}/{self.odd_scenario}")
+            shutil.copy(f"{DATA}/relay.hex", f"{self.repo}/{folder}")
+        change = draw.choice(
+            [
+                {"form": "cut", "sender": 0, "hearer": 1, "first": 0, "end": draw.choice([2**40, 2**70, -1])},
+                {"form": "latency", "sender": 0, "hearer": 1, "cycles": draw.choice([1, 0, 2**40])},
+                {"form": "input", "node": 0, "at": 5_000, "every": 7_680, "hex": draw.choice(["72", "\x1b[31m", "7"])},
+                {"form": "input", "node": draw.choice([0, 99, -1]), "at": 5_000, "every": 1, "hex": "7265\n"},
+                {"form": "cut", "sender": 0, "hearer": 1, "first": "0", "end": 5},
+            ]
+        )
+        trial = {"kind": draw.choice(["cuts", self.name()]), "what": self.name(), "changes": [change]}
+        failed = draw.choice([[trial], [trial] * 3, trial, "\x1b[31m", [[]]])
+        corpus = {"version": draw.choice([1, 1, 1, 2]), "seed": 1, "rounds": draw.choice([0, 0, -5, 10**9]), "failed": failed}
+        for folder in ("relay.hunt", f"{os.path.splitext(self.odd_scenario)[0]}.hunt"):
+            if os.path.lexists(f"{self.repo}/{folder}"):
+                continue
+            if draw.random() < 0.2:
+                self.odd(folder)
+                continue
+            for name in ("found-1.toml", "found-1-right.toml", "race-1.toml", "race-1.toml.state", "hunt.json"):
+                if draw.random() < 0.3:
+                    self.odd(f"{folder}/{name}")
+            if not os.path.lexists(f"{self.repo}/{folder}/hunt.json"):
+                self.write(f"{self.repo}/{folder}/hunt.json", json.dumps(corpus))
+        if draw.random() < 0.5:
+            self.odd("sweep.log")
+        else:
+            lines = ['{"sweep": "0"} 00\n', f'{{"move": [5000], "wrong": null}} {"0" * 64}\n', "half a line", ""]
+            self.write(f"{self.repo}/sweep.log", "".join(draw.sample(lines, 2)))
+        place = draw.choice(["relay.toml", "relay.toml", "early.toml", f"{self.home}/.netrc", "../home/work", "/dev/zero"])
+        stated = draw.choice(["always 0 head < 9", "reaches 0 ring[0] == 114", "never 0 SP == 0", f"always 0 {self.name()}"])
+        self.write(f"{self.repo}/r.expect", f"run {place}\nelf {draw.choice(['relay.elf', 'out', '../home/.netrc'])}\n{stated}\n")
+
     def elf(self):
         """A program whose names are changed."""
         with open(f"{DATA}/relay.elf", "rb") as file:
             content = bytearray(file.read())
-        for old in (b"transfer\0", b"relay.c\0", b"main\0"):
+        for old in (b"transfer\0", b"relay.c\0", b"main\0", b"ring\0", b"head\0", b"tail\0", b"put\0"):
             new = (
                 self.draw.choice([b"\x1b[2J\n#9x", b"\x9b\x07\xe2\x80\xae\n#", b"<!--%s\r\n", b"\xff\xfe\n\0\0\0\0\0"])[
                     : len(old) - 1

@@ -119,6 +119,48 @@ def test_nobody_confirms_himself():
     assert any(text.startswith("the worker d is set aside: it came to failed") for text in said)
 
 
+class LateAndIdle(Late):
+    """The one that proves itself first comes to nothing, and has no memory for any run."""
+
+    def answer(self, worker, number):
+        found = super().answer(worker, number)
+        return runs.answer(runs.BROKEN, "status 6: ", again=True) if worker.name == "d" else found
+
+
+def test_who_comes_first_decides_nothing():
+    """What comes to nothing on the only worker that is there waits for the others."""
+    found, said = driven(LateAndIdle("abd"), 400)
+    assert not wrong(found)
+    assert any(text.startswith("the worker d is set aside: ") for text in said)
+
+
+class Unfinished(Answering):
+    """One works and comes to nothing the first time; another one never proves itself. Time goes by where nobody has
+    work."""
+
+    def unproved(self):
+        return ["z"]
+
+    def wait(self, seconds):
+        found = super().wait(seconds)
+        self.now += not found
+        assert self.waits < 10_000
+        return found
+
+    def answer(self, worker, number):
+        self.lied[number] += 1
+        found = super().answer(worker, number)
+        return found if self.lied[number] > 1 else runs.answer(runs.BROKEN, "status 6: ", again=True)
+
+
+def test_another_worker_that_never_comes():
+    """The one that is there gets it again after a while."""
+    pool = Unfinished("a")
+    found, _ = driven(pool, 20, sample=0)
+    assert not wrong(found) and len(found) == 20
+    assert pool.now > driving.OTHER_SECONDS
+
+
 def test_two_that_differ_and_nobody_else():
     """It is no verdict."""
     found, _ = driven(Answering("ab", {"b": 0}, runs.FAILED), 30)

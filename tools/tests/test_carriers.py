@@ -1,20 +1,22 @@
 """What a worker of dask has of a campaign: a process, which it starts anew where it proves itself."""
+import contextlib
 import os
+import pickle
 import signal
 import types
 
 import pytest
 
-from avrora_tools import carriers, runs
+from avrora_tools import carriers, local_worker, runs
 from campaign_runs import SIMULATOR
 
 pytest.importorskip("distributed", reason="needs dask.distributed (Debian's python3-distributed)")
 
-JOB = ('version = 3\ncycles = 5_000\nlatency = 20\n[[node]]\nimage = "a.hex"\n[[node]]\nimage = "a.hex"\n', 0, {}, None)
+JOB = runs.Job('version = 3\ncycles = 5_000\nlatency = 20\n[[node]]\nimage = "a.hex"\n[[node]]\nimage = "a.hex"\n', 0, {}, None)
 
 
-@pytest.fixture
-def carrier(tmp_path, monkeypatch):
+@contextlib.contextmanager
+def carrier_in(tmp_path, monkeypatch):
     """One of a worker that has its files in the folder `worker`."""
     monkeypatch.setenv("CAMPAIGN_LOG", str(tmp_path / "log"))
     (tmp_path / "worker").mkdir()
@@ -26,22 +28,48 @@ def carrier(tmp_path, monkeypatch):
     assert not os.listdir(tmp_path / "worker")
 
 
+@pytest.fixture
+def carrier(tmp_path, monkeypatch):
+    with carrier_in(tmp_path, monkeypatch) as found:
+        yield found
+
+
 def reason(carrier):
     """Why it does not prove itself, or None."""
     return carrier.prove()[1]
 
 
+def answers(carrier, *jobs):
+    """What comes of a batch, which goes through dask as it is pickled."""
+    return pickle.loads(carrier.run_batch(pickle.dumps(jobs)))
+
+
+def outcomes(carrier, *jobs):
+    return [answer["outcome"] for answer in answers(carrier, *jobs)["answers"]]
+
+
 def test_its_process_is_killed(carrier):
     """Which is told; it proves itself by another one, and goes on."""
     assert reason(carrier) is None
-    assert [answer["outcome"] for answer in carrier.run_batch([JOB, JOB])["answers"]] == ["passed", "passed"]
+    assert outcomes(carrier, JOB, JOB) == ["passed", "passed"]
     first = carrier.process.pid
     os.kill(first, signal.SIGKILL)
     with pytest.raises(RuntimeError, match="its process ended with status -9"):
-        carrier.run_batch([JOB])
+        answers(carrier, JOB)
     assert reason(carrier) is None
     assert carrier.process.pid != first
-    assert carrier.run_batch([JOB])["sick"] is None
+    assert answers(carrier, JOB)["sick"] is None
+
+
+def test_signs_of_life_are_no_answers(tmp_path, monkeypatch):
+    """Its process gives one each few milliseconds, while runs take longer."""
+    often = "avrora_tools.local_worker.SECONDS_A_TICK = 0.002; main()"
+    start = local_worker.START.replace("main()", f"import avrora_tools.local_worker; {often}")
+    monkeypatch.setattr(local_worker, "START", start)
+    with carrier_in(tmp_path, monkeypatch) as carrier:
+        assert reason(carrier) is None
+        for _ in range(5):
+            assert outcomes(carrier, JOB, JOB) == ["passed", "passed"]
 
 
 def test_it_goes(carrier, tmp_path):

@@ -15,8 +15,10 @@ import pytest
 
 from support import LONG, LOOPBACK, TOOL, TOP, has_loopback, needs_program
 from avrora_tools import cli, images
-from avrora_tools.debugging import history, packets, session, target
+from avrora_tools.debugging import checkpoints, history, packets, session, sightings, target
 from avrora_tools.errors import BadInput
+from avrora_tools.observing.places import Kind, Place
+from avrora_tools.scenarios import MAX_WINDOW
 
 PROGRAM = os.environ.get(cli.PROGRAM_VARIABLE)
 TOP_EXAMPLES = pathlib.Path(TOP) / "examples"
@@ -46,6 +48,26 @@ def folder(tmp_path_factory):
 def past(folder):
     with history.history(f"{folder}/packet.toml", PROGRAM) as found:
         yield found
+
+
+def traced(past, first, end, like=""):
+    """The processor's rows of a trace, by windows: (cycle, node, kind, word address, rest), those whose text from the
+    kind on begins so."""
+    found = []
+    row = re.compile(r"(\d+) (\d+) ((instr|enter|stop) ([0-9A-F]+)(?: (.*))?)")
+    for begin in range(first, end, MAX_WINDOW):
+        behind = min(begin + MAX_WINDOW, end)
+        for line in past.traced_text(begin, behind).decode().splitlines():
+            it = row.fullmatch(line)
+            if it and begin <= int(it[1]) < behind and it[3].startswith(like):
+                found.append((int(it[1]), int(it[2]), it[4], int(it[5], 16), it[6]))
+    return found
+
+
+def crossings(past, words, first=0, end=None):
+    """The same of instructions at word addresses: (cycle, node)."""
+    rows = traced(past, first, past.limit if end is None else end, "instr")
+    return [(cycle, node) for cycle, node, _, word, _ in rows if word in words]
 
 
 def gdb(folder, *commands, at=None, node=0, state=None):
@@ -152,20 +174,64 @@ def test_rows_forward_and_back_are_those_of_the_trace(past, folder):
 
 @needs_all
 def test_a_search_finds_all_and_in_order(past):
-    like = history.rows_like(None, {0x0046})  # ticks of the sensors and of the sink
-    there = list(past.hits(0, past.limit, like))
-    assert there == sorted(there, key=lambda it: (it[1].cycle, it[0]))
-    assert list(past.hits_back(past.limit, like)) == there[::-1]
-    middle = past.limit // 2
-    assert list(past.hits(0, middle, like)) + list(past.hits(middle, past.limit, like)) == there
+    words = {0x0046, 0x005D}
+    places = [Place(node, Kind.AT, word) for node in range(past.nodes) for word in words]
+    wanted = crossings(past, words)
+    assert len(wanted) > 100
+    seek = past.sightings
+    for whole in (False, True):
+        for begin, end in ((0, past.limit), (0, 300_000), (300_000, past.limit), (262_143, 262_145)):
+            there = [one for _, seen in seek.searched(seek.pieces_on(begin, end, whole), places) for one in seen]
+            back = [one for _, seen in seek.searched(seek.pieces_back(end, begin, whole), places) for one in seen[::-1]]
+            assert [(one.cycle, one.place.node) for one in there] == [it for it in wanted if begin <= it[0] < end]
+            assert back == there[::-1]
 
 
 @needs_all
-def test_states_far_apart_are_kept_few(past, monkeypatch):
-    monkeypatch.setattr(history, "KEPT_FILES", 2)
-    for epoch in (1, 2):
-        assert past.state(epoch * history.EPOCH).cycle == epoch * history.EPOCH
-    assert len(past.saved) <= 3
+def test_what_is_forgotten_is_asked_for_again(past, monkeypatch):
+    monkeypatch.setattr(sightings, "KEPT_LISTS", 3)
+    places = [Place(node, Kind.AT, 0x0046) for node in range(past.nodes)]
+    seek = past.sightings
+    found = [one for _, seen in seek.searched(seek.pieces_on(0, 400_000), places) for one in seen]
+    assert [(one.cycle, one.place.node) for one in found] == crossings(past, {0x0046}, 0, 400_000)
+    assert len(seek.kept) <= 3
+
+
+@needs_all
+def test_a_replay_is_what_the_simulator_tells(past):
+    """Of drawn cycles: all bytes that a replay has, and where the node stands, forwards and backwards in a span."""
+    draw = random.Random(4)
+    for _ in range(4):
+        node, number = draw.randrange(past.nodes), draw.randrange(past.limit // history.STEP_SPAN)
+        begin = number * history.STEP_SPAN
+        past.foresee(node, begin + history.STEP_SPAN // 2)
+        for _ in range(6):
+            cycle = begin + draw.randrange(history.STEP_SPAN)
+            state, row = past.looked(cycle).nodes[node], past.row_at(node, cycle)
+            data, wanted = past.replayed(node, cycle), target.data_space(state)
+            assert data[:32] == wanted[:32] and data[0x100:] == wanted[0x100:] and data[0x5D:0x60] == wanted[0x5D:0x60]
+            assert row is None or row.address == state["PC"]
+
+
+def test_states_far_apart_are_kept_few(tmp_path):
+    """Some lie evenly along the run, the others where one looked last; each is made from the nearest one before."""
+    made = []
+
+    def save(epochs, state):
+        before = 0 if state is None else int(pathlib.Path(state).read_text())
+        made.append(before + epochs)
+        return str(before + epochs).encode()
+
+    one = checkpoints.Checkpoints(str(tmp_path), None, 0, 10_000, save)
+    assert one.made(0) is None
+    for epoch in (9_999, 9_998, 9_990, 5_000, *range(300, 100, -1)):
+        assert pathlib.Path(one.made(epoch)).read_text() == str(epoch)
+    assert len(made) < 10_000 // one.stride + 3 * checkpoints.BEFORE + 200 * 3
+    assert len(list(tmp_path.iterdir())) == len(one.saved) <= checkpoints.EVEN + checkpoints.RECENT + 1
+    with one.state(4_321) as path:
+        for epoch in range(600, 800):
+            one.made(epoch)
+        assert pathlib.Path(path).read_text() == "4321"  # it stays while it is used
 
 
 def test_registers_as_gdb_orders_them():
@@ -189,9 +255,7 @@ def test_registers_as_gdb_orders_them():
         0x10,
         0x82,
     )
-    assert target.memory(node, b"\x0c\x94", 0, 4) == b"\x0c\x94"
-    assert target.memory(node, b"", 0x800010, 2) == b"\x10\x11"
-    assert target.memory(node, b"", 0x801100, 2) == b""
+    assert b"".join(target.without_counter(data)) == found[:-4]
 
 
 # ---- with avr-gdb
@@ -247,8 +311,7 @@ def test_both_ends_of_the_run_are_told(folder):
 def test_a_breakpoint_of_another_node_is_not_passed_by(folder, past):
     """Node after node meets the same line; none is lost while gdb steps another one over it."""
     word = 0x005D  # the loop of the start-up code that clears memory, in which all three are at once
-    like = history.rows_like(None, {word})
-    rows = [(node, row.cycle) for node, row in past.hits(0, 1_000, like) if row.kind == "instr"]
+    rows = [(node, cycle) for cycle, node in crossings(past, {word}, 0, 1_000)]
     assert {node for node, _ in rows[:7]} == {0, 1, 2}
     commands = [f"break *{2 * word:#x}"] + ["continue", "monitor cycle"] * 7
     found = re.findall(r"^cycle ([\d,]+), node (\d)", gdb(folder, *commands), re.M)
@@ -318,11 +381,11 @@ def test_what_no_gdb_sends_is_an_error_and_no_end(past):
     for packet in NO_PACKETS:
         assert one.answered(packet.encode()) == session.MALFORMED, packet
     assert one.answered(b"vCont;\xff") == session.MALFORMED
-    before = one.at
+    before = one.motion.at
     for words in ("goto " + "9" * 5_000, "goto 1" + "_" * 5_000, "next sent of " + "9" * 5_000, "next sent of \u0663"):
         said = bytes.fromhex(one.answered(b"qRcmd," + words.encode().hex().encode()).decode()).decode()
         assert "no cycle" in said or "no node" in said
-    assert one.at == before
+    assert one.motion.at == before
 
 
 @pytest.mark.skipif(not PROGRAM, reason="needs a program (AVRORA_PROGRAM)")
@@ -412,10 +475,13 @@ def test_a_long_continue_is_interrupted(folder):
     own, other = socket.socketpair()
     with own, other, history.history(f"{folder}/packet.toml", PROGRAM) as past:
         one = session.Session(past, packets.Channel(own.fileno(), own.fileno()))
-        one.points = {0xF000: 1}
+        one.answered(b"Z0,1e000,2")
         other.sendall(b"\x03")
-        assert one.told(one.go_on()).startswith(b"T02")
-        assert one.told(one.go_on()).endswith(b"replaylog:end;")
+        assert one.answered(b"vCont;c").startswith(b"T02")
+        assert one.answered(b"vCont;c").endswith(b"replaylog:end;")
+        other.sendall(b"\x03")
+        assert one.answered(b"bc").startswith(b"T02")
+        assert one.answered(b"bc").endswith(b"replaylog:begin;")
 
 
 @needs_all
@@ -445,8 +511,8 @@ def stores_of(past, node, name, folder):
     """The cycles in which a node stores a byte of a variable by its address, of the trace, another than it had before."""
     symbols = subprocess.run(["avr-nm", "packet.elf"], cwd=folder, capture_output=True, text=True, check=True).stdout
     address = int(re.search(rf"^00(80\w+) . {name}$", symbols, re.M)[1], 16) - 0x800000
-    like = re.compile(rb"^\d+ %d instr \w+ sts 0x%04X, [^\n]*" % (node, address), re.M)
-    cycles = [row.cycle for _, row in past.hits(0, past.limit, like)]
+    rows = traced(past, 0, past.limit, "instr")
+    cycles = [cycle for cycle, of, _, _, text in rows if of == node and text.startswith(f"sts 0x{address:04X}, ")]
     return [cycle for cycle in cycles if len({past.state(c).nodes[node].data[address] for c in (cycle, cycle + 1)}) == 2]
 
 

@@ -75,7 +75,7 @@ def test_the_same_seed_varies_the_same_and_what_is_found_fails(at, tmp_path):
 
 
 def without_times(text):
-    return re.sub(r"^[\d,]+ runs in .*", "", text, flags=re.M)
+    return re.sub(r"^[\d,]+ runs in .*| \([\d.]+ \w+ of processors\)", "", text, flags=re.M)
 
 
 def test_a_corpus_goes_on(at, tmp_path):

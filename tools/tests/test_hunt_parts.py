@@ -53,6 +53,25 @@ def test_changes_of_a_scenario():
     Scenario.of_text(scenario_text(never), "never")
 
 
+@pytest.mark.parametrize(
+    "record",
+    [
+        {"kind": "\x1b[31m"},
+        {"kind": "cuts\nfound"},
+        {"changes": [{"form": "input", "node": 0, "at": 1, "every": 1, "hex": '41"\n[[node]]'}]},
+        {"changes": [{"form": "input", "node": 0, "at": 1, "every": 1, "hex": "4"}]},
+        {"changes": [{"form": "cut", "sender": "0", "hearer": 1, "first": 0, "end": 1}]},
+        {"changes": [{"form": "node", "image": "/etc/passwd"}]},
+        {"changes": [[]]},
+    ],
+)
+def test_a_trial_of_a_file_says_nothing_else(record):
+    """A corpus may be a stranger's: it is printed, and becomes scenarios."""
+    assert trial_of(record_of(TRIAL)) == TRIAL
+    with pytest.raises(BadInput, match="no trial of a hunt"):
+        trial_of({**record_of(TRIAL), **record})
+
+
 def test_a_node_goes_and_those_behind_move_up():
     small = without_node(DOCUMENT, 0)
     assert [node["image"] for node in small["node"]] == ["b.hex", "c.hex"]

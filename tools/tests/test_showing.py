@@ -2,6 +2,7 @@
 import html.parser
 import json
 import re
+import subprocess
 import sys
 import unicodedata
 import xml.etree.ElementTree
@@ -160,3 +161,21 @@ def test_any_text_in_a_dump(text):
     shown = showing.vcd_word(text)
     assert re.fullmatch("[!-~]+", shown) and shown[0] not in "$#"
     assert len(shown) == max(1, len(text))
+
+
+def words_of_bash(line):
+    """The words that bash takes a line for, as bytes."""
+    done = subprocess.run(
+        ["bash", "-c", f"printf '%s\\0' {line}"], capture_output=True, check=True, env={"LC_ALL": "C.UTF-8"}
+    )
+    return done.stdout.split(b"\0")[:-1]
+
+
+def test_a_line_for_bash_shows_nothing_and_has_the_same_words():
+    words = ["a b", "it's", "\x1b[31m", "a\nb", "\u202eexe", "\udcff", "$(id)", "`id`", "##[x]\x07", "\\x41\x01", "", "-x"]
+    words += ["".join(EVERY[first : first + 64]) for first in range(1, 0x400, 64)]
+    line = showing.shell_line(words)
+    assert line.isprintable() and "##[" not in line
+    assert words_of_bash(line) == [showing.encoded(word) for word in words]
+    assert showing.shell_word("\ud800\x1b").isprintable()
+    assert showing.shell_folder("-x") == "./-x"

@@ -161,6 +161,30 @@ def test_a_journal_is_of_its_user(tmp_path, monkeypatch):
         Journal(str(tmp_path / "link"), whose)
 
 
+def test_a_journal_takes_no_other_file(tmp_path, monkeypatch):
+    """What --resume names may lie in a repository of a stranger's, or be named by mistake."""
+    monkeypatch.setenv("XDG_STATE_HOME", str(tmp_path / "state"))
+    whose = digest({})
+    notes = tmp_path / "notes"
+    notes.write_bytes(b"a line that does not end")
+    with pytest.raises(BadInput, match="no file of `sweep --resume`"):
+        Journal(str(notes), whose)
+    assert notes.read_bytes() == b"a line that does not end"
+    os.link(notes, tmp_path / "other")
+    notes.write_bytes(b"")
+    with pytest.raises(BadInput, match="another name"):
+        Journal(str(notes), whose)
+    os.mkfifo(tmp_path / "pipe")
+    with pytest.raises(BadInput, match="no file"):
+        Journal(str(tmp_path / "pipe"), whose)
+    kept = tmp_path / "kept"
+    Journal(str(kept), whose).close()
+    first = kept.read_bytes()
+    kept.write_bytes(first[:20])  # cut while it was begun
+    Journal(str(kept), whose).close()
+    assert kept.read_bytes() == first
+
+
 def test_limits():
     limit = Limit(None)
     assert not limit.is_over()

@@ -4,11 +4,12 @@ import sys
 
 from avrora_tools import cli, programs, scenarios, traces
 from avrora_tools.events import Enter, Event, Instr, Stop
+from avrora_tools.opening import Where, debug_command
 
 SUMMARY = "the function and source line of each address of a trace"
 
 DESCRIPTION = """Writes a trace with the function and the source line of each address behind instruction, entry and stop
-rows, and the names of interrupts. Compile with -gdwarf-2 to have lines. It takes any rows of a trace."""
+rows, and the names of interrupts; with the scenario (-s), behind a stop the command that opens gdb there. Compile with -gdwarf-2 to have lines. It takes any rows of a trace."""
 
 COLUMN = 44  # where the notes begin
 MOST_NOTES = 65_536  # that are kept
@@ -57,5 +58,8 @@ def run(arguments: argparse.Namespace) -> int:
         all_programs.compare(node, event)
         text = f"{cycle} {node} {event.text}"
         note = notes.of(node, event)
+        if isinstance(event, Stop) and arguments.scenario:
+            opened = debug_command(arguments.scenario, Where(cycle, node), arguments.elf)
+            note = f"{note}; {opened}" if note else opened
         write(f"{text:<{COLUMN}} ; {note}\n" if note else f"{text}\n")
     return 0

@@ -1,12 +1,13 @@
 """Tells what differs between two traces."""
 import argparse
-from collections.abc import Iterator
+from collections.abc import Iterator, Sequence
 
 from avrora_tools import cli, events, programs, scenarios, traces
 from avrora_tools.commands.annotate import Notes
 from avrora_tools.differences import Alignment, NodeDifference, differences
 from avrora_tools.errors import BadInput, BadWords, Status
 from avrora_tools.events import TRACED
+from avrora_tools.opening import Where, debug_command
 from avrora_tools.traces import Row
 
 SUMMARY = "what differs between two traces: first rows, and what is later, gone or new"
@@ -37,6 +38,8 @@ def run(arguments: argparse.Namespace) -> int:
             print_node(number, node, notes)
     if same:
         print(f"the same: node{'s' * (len(same) > 1)} {', '.join(map(str, same))}")
+    if arguments.scenario and (parted := [one for one in nodes.items() if one[1].has_parted]):
+        print(f"debug: {debug_command(arguments.scenario, first_parting(parted), arguments.elf)}")
     if not nodes:
         print("the same: neither trace has such a row")
     return Status.GOOD if len(same) == len(nodes) else Status.NOT_MET
@@ -70,6 +73,11 @@ def print_node(number: int, node: NodeDifference, notes: Notes) -> None:
             print(f"  {mark} no row more")
     for kind, alignment in node.rest.items():
         print(f"  {kind}: {', '.join(counts(alignment))}")
+
+
+def first_parting(nodes: Sequence[tuple[int, NodeDifference]]) -> Where:
+    """Where the traces part first: at the earliest row that the other one does not have there."""
+    return min(Where(row.cycle, number) for number, node in nodes for rows in node.behind for row in rows[:1])
 
 
 def row_text(row: Row, notes: Notes) -> str:

@@ -15,7 +15,8 @@ from avrora_tools.hunting.oracles import Oracle
 from avrora_tools.hunting.races import NAME as ARRIVALS
 from avrora_tools.hunting.races import Races
 from avrora_tools.hunting.smaller import OracleOf
-from avrora_tools.hunting.trials import Runner, Scenes, scenes
+from avrora_tools.hunting.trials import Runner, Scenes, processor_seconds, scenes
+from avrora_tools.hunting.watching import Conditions, WatchingTails
 from avrora_tools.sweeping.cluster import ClusterTails
 from avrora_tools.sweeping.limits import Limit
 from avrora_tools.sweeping.simulation import ProcessTails, Simulator
@@ -36,7 +37,7 @@ that still fails. In turns, and more of what finds something:
   arrivals   a byte cycle by cycle where main and the handler of USART0 RX use the same things (-e)
 Without a check of yours each node must write to USART0, by the scenario's end, what it writes by --until in the
 unvaried run: in any order of lines, and nothing twice. It must not stop, nor fall silent if it sends all the time.
---expect and --check are those of `sweep`; `run.moved` is empty.
+--expect, --check and --always are those of `sweep`; `run.moved` is empty.
 
 The same seed varies the same in the same order; the minutes decide how much of it. FOLDER (SCENARIO's name with .hunt)
 gets a scenario for each cause and what failed, which the next hunt tries first. docs/HUNTING.md leads through one.
@@ -48,15 +49,18 @@ SLACK = 8  # a run goes on by this share behind the deadline, where the scenario
 
 
 def run(arguments: argparse.Namespace) -> int:
-    if arguments.expect and arguments.check:
-        raise BadWords("either --expect or --check")
+    if len([it for it in (arguments.expect, arguments.check, arguments.always) if it]) > 1:
+        raise BadWords("one of --expect, --check and --always")
+    if arguments.always and arguments.scheduler:
+        raise BadWords("--always is of runs of this machine")
     document, until = prepared_document(arguments)
     scenario = scenarios.Scenario.load(arguments.scenario)
     known = programs.Programs(arguments.elf, scenario, arguments.force) if arguments.elf else None
     corpus = Corpus(arguments.corpus or os.path.splitext(arguments.scenario)[0] + ".hunt")
     simulator = Simulator(cli.simulator(arguments.avrora), folder_of(arguments.scenario), arguments.timeout)
     scenes_ = scenes(document)
-    with Limit(60.0 * arguments.minutes).by_signals() as limit, tails_of(arguments, simulator, scenes_) as tails:
+    conditions = conditions_of(arguments, scenario, known)
+    with limit_of(arguments).by_signals() as limit, tails_of(arguments, simulator, scenes_, conditions) as tails:
         tails.is_over = limit.is_over
         oracle_of = oracle_maker(arguments, len(scenario.images))
         lines = Lines(tails, known)
@@ -64,10 +68,10 @@ def run(arguments: argparse.Namespace) -> int:
         chosen = chosen_of(arguments.only)
         races = None
         if chosen is None or ARRIVALS in chosen:
-            races = Races(simulator, document, until, known, arguments.jobs, limit, corpus.race)
-        has_check = bool(arguments.expect or arguments.check)
+            races = Races(simulator, document, until, known, arguments.jobs, limit, corpus.race, conditions)
+        has_check = bool(arguments.expect or arguments.check or arguments.always)
         hunt = Hunt(
-            Runner(tails, scenes_), document, until, oracle_of, has_check, races, lines, limit, arguments.seed, chosen
+            Runner(tails, scenes_, oracle_of(len(scenario.images)).rows), document, until, oracle_of, has_check, races, lines, limit, arguments.seed, chosen
         )
         if hunt.unmoved_failure:
             raise BadInput(f"the scenario fails as it is, with nothing varied: {hunt.unmoved_failure.text}")
@@ -80,11 +84,18 @@ def run(arguments: argparse.Namespace) -> int:
     return Status.NOT_MET if hunt.findings else limit.status(Status.GOOD)
 
 
+def limit_of(arguments: argparse.Namespace) -> Limit:
+    """How long a hunt takes: by the clock, or of processors, which does not count how busy the machine is else."""
+    if arguments.processor_minutes:
+        return Limit(60.0 * arguments.processor_minutes, processor_seconds)
+    return Limit(60.0 * arguments.minutes)
+
+
 def print_plan(hunt: Hunt, corpus: Corpus) -> None:
     said = len(hunt.facts.bursts)
     nodes, cycles = len(hunt.document["node"]), int(hunt.document["cycles"])
     print(f"{nodes} nodes, {said:,} packets said where nothing varies; deadline {hunt.until:,}, ", end="")
-    print(f"runs end at {cycles:,}; {corpus.folder} has {len(corpus.failed):,} trials", flush=True)
+    print(f"runs end at {cycles:,}; {files.shown(corpus.folder)} has {len(corpus.failed):,} trials", flush=True)
 
 
 def prepared_document(arguments: argparse.Namespace) -> tuple[Document, int]:
@@ -100,8 +111,21 @@ def prepared_document(arguments: argparse.Namespace) -> tuple[Document, int]:
     return {**document, "version": 3, "cycles": max(cycles, until + until // SLACK), "window": [0, 0]}, until
 
 
-def tails_of(arguments: argparse.Namespace, simulator: Simulator, scenes_: Scenes) -> ProcessTails:
+def conditions_of(
+    arguments: argparse.Namespace, scenario: scenarios.Scenario, known: programs.Programs | None
+) -> Conditions | None:
+    """What --always says."""
+    if not arguments.always:
+        return None
+    return Conditions.of_words(arguments.always, scenario, known or programs.Programs([], scenario, False))
+
+
+def tails_of(
+    arguments: argparse.Namespace, simulator: Simulator, scenes_: Scenes, conditions: Conditions | None
+) -> ProcessTails:
     """What makes the runs: processes of this machine, or the workers of a scheduler."""
+    if conditions:
+        return WatchingTails(simulator, scenes_, arguments.jobs, conditions)
     if not arguments.scheduler:
         return ProcessTails(simulator, scenes_, arguments.jobs)
     tails = ClusterTails(simulator, scenes_)
@@ -122,7 +146,7 @@ def oracle_maker(arguments: argparse.Namespace, count: int) -> OracleOf:
     chosen = nodes_of(count, arguments.nodes)
 
     def oracle_of(nodes: int) -> Oracle:
-        return Oracle(chosen if nodes == count else range(nodes), user)
+        return Oracle(chosen if nodes == count else range(nodes), user, bool(arguments.always))
 
     return oracle_of
 
@@ -147,8 +171,17 @@ def configure(parser: argparse.ArgumentParser) -> None:
     )
     parser.add_argument("--expect", metavar="CASE", help="check each run by this case of `expect`")
     parser.add_argument("--check", metavar="FILE", help="check each run by the function check(run) of this Python file")
+    parser.add_argument(
+        "--always",
+        action="append",
+        metavar="'NODE CONDITION'",
+        help="check that this holds of a node's variables (-e) in every cycle of each run: '1 queued <= 3'",
+    )
     cli.add_nodes(parser)
     parser.add_argument("--minutes", type=cli.positive, default=MINUTES, metavar="N", help="how long (%(default)s)")
+    parser.add_argument(
+        "--processor-minutes", type=cli.positive, metavar="N", help="instead, minutes of all processors together"
+    )
     parser.add_argument("--rounds", type=cli.positive, metavar="N", help="end after N rounds of turns")
     parser.add_argument("--seed", type=cli.natural, default=1, metavar="N", help="by which it draws (%(default)s)")
     parser.add_argument("--only", metavar="KINDS", help=f"these kinds alone, of {','.join(NAMES)}")

@@ -19,7 +19,7 @@ SUMMARY = "a page of one run that a person reads"
 DESCRIPTION = """Runs a scenario, and writes a page of HTML about the run that needs no other file and no network: what
 was run (images with their SHA-256, links as a map, input), what came (sends, clashes, stops, lines to USART0), a
 timeline to zoom into, how well each link does, duty cycle and current of each node, the functions that took the cycles
-with a flame graph, coverage, cases of `expect`, findings of a sweep, statistics of a campaign. Each part names the
+with a flame graph, coverage, variables over time (--watch), cases of `expect`, findings of a sweep, statistics of a campaign. Each part names the
 command that gives it.
 
 Cycles by function and coverage are of the whole run, by `avrora monitor`; call stacks are those of a window in which
@@ -58,6 +58,7 @@ def configure(parser: argparse.ArgumentParser) -> None:
     parser.add_argument(
         "--stacks", type=cli.window, metavar="A..B", help="the cycles of the flame graph, at most 20,000"
     )
+    cli.add_watch(parser)
     parser.add_argument("--sources", metavar="FOLDER", help="show sources that lie below it")
     parser.add_argument("--lcov", metavar="FILE", help="write which lines ran as a tracefile of lcov too (-e)")
     parser.add_argument(
@@ -84,7 +85,12 @@ def run(arguments: argparse.Namespace) -> int:
     scenario = Scenario.load(path)
     all_programs = programs.Programs(arguments.elf, scenario, arguments.force)
     wishes = Wishes(
-        arguments.trace, arguments.currents, arguments.always_listening, arguments.stacks, not arguments.no_sleep
+        arguments.trace,
+        arguments.currents,
+        arguments.always_listening,
+        arguments.stacks,
+        not arguments.no_sleep,
+        arguments.watch,
     )
     found = gathering.gathered(path, simulator, all_programs, wishes)
     for case in cases:

@@ -26,6 +26,7 @@ from avrora_tools.sweeping.simulation import ProcessTails, Simulator
 from avrora_tools.sweeping.sweep import ALL_FAIL, Options, Sweep
 from avrora_tools.sweeping.telling import (
     compares_nothing,
+    debugged,
     first_move,
     print_cost,
     print_plan,
@@ -85,6 +86,8 @@ def run(arguments: argparse.Namespace) -> int:
             command = write_earliest(arguments.out, sweep, found[0].finding.first())
             earliest = shown_command(sweep.tails.simulator, command)
             print(f"earliest: {earliest}")
+            if opened := debugged(command, sweep, found[0].finding.first(), [arguments.elf] if arguments.elf else []):
+                print(f"debug: {opened}")
         write_pages(arguments, sweep, search_of(sweep, options, found, [own_command(arguments)], earliest))
         if compares_nothing(sweep) and not results.failures:
             if limit.is_over():

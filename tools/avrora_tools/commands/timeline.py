@@ -5,6 +5,8 @@ import os
 from avrora_tools import cli, files, pictures, programs, traces
 from avrora_tools.drawings import Drawing
 from avrora_tools.errors import BadInput, BadWords
+from avrora_tools.observing import tracks
+from avrora_tools.observing.running import Network, Run
 from avrora_tools.reporting import resting, timelines
 from avrora_tools.scenarios import Scenario
 from avrora_tools.sweeping.simulation import Simulator
@@ -19,7 +21,10 @@ traced; with --sleep the simulator's `monitor` tells which part of each span of 
 chosen event tells its source line, in the window. A page above 5 MB leaves events out, and says so: it keeps one of
 several that lie close together, first of samples, then of other events, last of clashes. --from, --to and --nodes draw
 less, and all of it. It takes a trace with its end rows, also one of `avrora resume` and of the tool window, or with
---head the beginning of one."""
+--head the beginning of one.
+
+With --watch, -s and -e, variables and registers have tracks of their own below their node, by their names. Enumerations
+have the names of their values; numbers are as high as they are great. The simulator runs once more for them."""
 
 def configure(parser: argparse.ArgumentParser) -> None:
     cli.describe(parser, DESCRIPTION, "timeline -s flood.toml -o flood.html flood.trace")
@@ -28,6 +33,7 @@ def configure(parser: argparse.ArgumentParser) -> None:
     parser.add_argument("--from", dest="first", type=cli.natural, default=0, metavar="CYCLE", help="from this cycle on")
     parser.add_argument("--to", dest="end", type=cli.positive, metavar="CYCLE", help="before this cycle")
     cli.add_nodes(parser)
+    cli.add_watch(parser)
     parser.add_argument("--svg", action="store_true", help="a picture, and no page; as --out FILE.svg does")
     parser.add_argument("--width", type=cli.positive, default=1200, help="of the picture, in pixels (%(default)s)")
     parser.add_argument(
@@ -56,6 +62,8 @@ def run(arguments: argparse.Namespace) -> int:
         raise BadWords(f"--svg writes a picture, and {files.shown(arguments.out)} is the name of a page")
     if arguments.sleep and not arguments.scenario:
         raise BadWords("--sleep wants the scenario (-s), which it runs")
+    if arguments.watch and not arguments.scenario:
+        raise BadWords("--watch runs the scenario once more: name it (-s)")
     scenario = Scenario.load(arguments.scenario) if arguments.scenario else None
     all_programs = programs.Programs(arguments.elf, scenario, arguments.force)
     trace = traces.read(arguments.trace, traces.form_of(arguments), scenario=scenario, epochs=arguments.head)
@@ -67,6 +75,9 @@ def run(arguments: argparse.Namespace) -> int:
         simulator = Simulator(cli.simulator(arguments.avrora), os.path.dirname(path), arguments.timeout)
         whole = resting.monitored(simulator, path, scenario, 0, scenario.cycles)
         resting.add_to(drawing, simulator, path, scenario, whole)
+    if arguments.watch and scenario:
+        run_again = Run.of(cli.simulator(arguments.avrora), arguments.scenario, scenario.cycles)
+        tracks.add_to(drawing, run_again, Network(scenario, all_programs), arguments.watch)
     if is_picture:
         text = pictures.Picture(drawing, arguments.hz, arguments.width, arguments.quiet).text()
     else:

@@ -285,9 +285,7 @@ def waves_of(
 def configure(parser: argparse.ArgumentParser) -> None:
     cli.describe(parser, DESCRIPTION, "vcd -s flood.toml flood.trace > flood.vcd")
     cli.add_simulator(parser)
-    parser.add_argument(
-        "--watch", action="append", default=[], metavar="NAME", help="a variable or register, or a pattern: 'queue*'"
-    )
+    cli.add_watch(parser)
     programs.add_programs(parser)
     cli.add_nodes(parser)
     parser.add_argument("--byte-time", type=cli.positive, help="where no scenario tells it (%d)" % DEFAULT_TIME)

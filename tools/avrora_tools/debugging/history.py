@@ -1,5 +1,5 @@
-"""A run as a whole, whatever cycle one asks for: states, traced rows, and events. All of it is asked of the simulator,
-which gives the same each time; what was asked for is kept for a while."""
+"""A run as a whole, whatever cycle one asks for: states, traced rows, what is seen at places, and events. All of it is
+asked of the simulator, which gives the same each time; what was asked for is kept for a while."""
 import bisect
 import collections
 import concurrent.futures
@@ -9,30 +9,42 @@ import os
 import re
 import subprocess
 import tempfile
-from collections.abc import Callable, Iterable, Iterator, Sequence
-from dataclasses import dataclass, field
-from typing import NamedTuple
+from collections.abc import Callable, Iterable, Iterator
+from dataclasses import dataclass
+from typing import NamedTuple, TypeVar
 
-from avrora_tools import files, toml
+from avrora_tools import files, images, toml
 from avrora_tools.commands.window import windowed
+from avrora_tools.debugging.checkpoints import Checkpoints
+from avrora_tools.debugging.replays import Replay, all_places
+from avrora_tools.debugging.sightings import Sightings, changes_of
 from avrora_tools.errors import BadInput, CannotWork
-from avrora_tools.observing.places import Change, Place, change_of, text_of
-from avrora_tools.scenarios import MAX_WINDOW, Scenario
-from avrora_tools.states import EPOCH, State
+from avrora_tools.observing.places import Kind, Place, text_of
+from avrora_tools.scenarios import Scenario
+from avrora_tools.states import CORE, EPOCH, State
 
-# So many cycles are traced at once: few for steps, more to look for a breakpoint.
-STEP_SPAN, SEARCH_SPAN = 1_000, MAX_WINDOW
+# So many cycles are traced at once, instruction by instruction.
+STEP_SPAN = 1_000
 
-# What is kept: states in memory, windows for steps, epochs' events, states at epochs' ends on the disk, bytes of
-# traces.
-KEPT_STATES, KEPT_WINDOWS, KEPT_EPOCHS, KEPT_FILES = 32, 64, 64, 128
-KEPT_BYTES = 64_000_000
+# What is kept: states in memory, windows for steps, replays, epochs' events.
+KEPT_STATES, KEPT_WINDOWS, KEPT_REPLAYS, KEPT_EPOCHS = 32, 64, 64, 64
 
-# A trace is searched backwards in pieces of so many bytes.
-PIECE = 1 << 16
+# Whoever steps over the end of a window goes on there: so many are asked for at once.
+WINDOWS_AHEAD = 3
 
 # The statuses by which the simulator refuses what it reads.
 REFUSED = (2, 4, 5, 8)
+
+# The words of the vectors, at which a node begins that wakes; the instruction that sends it to sleep; from sleep it takes
+# so many cycles to the vector.
+VECTORS = range(0x0002, 0x0046, 2)
+SLEEP = b"\x88\x95"
+WAKING = 8
+
+# A step so near the end of a span asks for the next one too, in cycles.
+NEAR = STEP_SPAN // 4
+
+STOP_PLACE = CORE.index("stop") + 2  # among the words of a line `core` of a state
 
 
 class Traced(NamedTuple):
@@ -45,6 +57,13 @@ class Traced(NamedTuple):
     rest: str
 
 
+class Doing(NamedTuple):
+    """What a node does: the cause that stopped it for good, and whether it sleeps."""
+
+    stop: str | None
+    asleep: bool
+
+
 class Happened(NamedTuple):
     """Any other row: its cycle, node, kind, and rest."""
 
@@ -54,19 +73,45 @@ class Happened(NamedTuple):
     rest: str
 
 
-PROCESSOR = re.compile(rb"^\d+ \d+ (?:instr|enter|stop) [^\n]*", re.M)
 OTHER = re.compile(rb"^(\d+) (\d+) (sent|heard|serial|stop) ([^\n]*)$", re.M)
 
 
-@dataclass
 class Window:
-    """The processor's rows of all nodes in a span, in order."""
+    """The processor's rows of all nodes in a span, in order. Those of a node are read when they are asked for."""
 
-    rows: list[list[Traced]]
-    cycles: list[list[int]] = field(default_factory=list)
+    def __init__(self, text: bytes, first: int, nodes: int) -> None:
+        """`text` is a trace that has all rows from the cycle `first` on."""
+        self.text = text[line_at(text, first) :]
+        self.read: list[tuple[list[Traced], list[int]] | None] = [None] * nodes
 
-    def __post_init__(self) -> None:
-        self.cycles = [[row.cycle for row in rows] for rows in self.rows]
+    def of(self, node: int) -> tuple[list[Traced], list[int]]:
+        """A node's rows, and their cycles."""
+        found = self.read[node]
+        if found is None:
+            like = re.compile(rb"^\d+ %d (?:instr|enter|stop) [^\n]*" % node, re.M)
+            rows = [traced_of(match[0].decode("ascii")) for match in like.finditer(self.text)]
+            found = self.read[node] = rows, [row.cycle for row in rows]
+        return found
+
+    def begins_at(self, words: Iterable[int]) -> Iterator[tuple[int, int, int]]:
+        """Each instruction that begins at one of these word addresses: its cycle, node and address."""
+        places = b"|".join(b"%04X" % word for word in sorted(set(words)))
+        for match in re.finditer(rb"^(\d+) (\d+) instr (%s) " % places, self.text, re.M):
+            yield int(match[1]), int(match[2]), int(match[3], 16)
+
+
+@dataclass
+class Beginning:
+    """A replay whose parts are on their way."""
+
+    state: "concurrent.futures.Future[State]"
+    text: "concurrent.futures.Future[bytes]"
+    made: Replay | None = None
+
+    def replay(self, node: int) -> Replay:
+        if self.made is None:
+            self.made = Replay(self.state.result().nodes[node], changes_of(self.text.result()))
+        return self.made
 
 
 class History:
@@ -78,27 +123,41 @@ class History:
         """`folder` is one for files of its own, which whoever made it clears away; the run begins in the state of the
         file `state`, else at reset."""
         self.simulator, self.own = simulator, folder
-        self.place = place or os.path.dirname(os.path.abspath(scenario))
+        self.place = os.path.abspath(place or os.path.dirname(os.path.abspath(scenario)))
         self.path = os.path.abspath(scenario)
         marks = {self.path: mark_of(self.path)}
         self.text = files.read_text(scenario).removeprefix(toml.BYTE_ORDER_MARK)
-        self.scenario = Scenario.of_text(self.text, files.shown(scenario))
+        self.scenario = Scenario.of_text(self.text, files.shown(scenario), self.place)
         self.limit, self.nodes = self.scenario.cycles, len(self.scenario.images)
+        # Without the lines of its limit and window, which each window has of its own.
+        self.rest = windowed(self.text, 0, 1).split("\n", 2)[2]
         self.state_file = os.path.abspath(state) if state else None
         named = [os.path.join(self.place, image) for image in self.scenario.images]
         # What the run is of: each file as it was at first.
         self.marks = marks | {path: mark_of(path) for path in [*named, *filter(None, [self.state_file])]}
         self.first = State.load(state).cycle if state else 0
         self.calls = 0
-        # Asked between two spans of a search, which ends where it says so.
-        self.wants_stop: Callable[[], bool] | None = None
-        self.was_stopped = False
-        self.saved: dict[int, str] = {}  # by the number of the epoch that begins there
-        self.traces: dict[int, bytes] = {}  # of spans that were searched, by their numbers, the latest last
-        self.state = functools.lru_cache(KEPT_STATES)(self.looked)
-        self.window = functools.lru_cache(KEPT_WINDOWS)(self.read_window)
+        cpus = os.cpu_count() or 1
+        # What gdb waits for, and what is searched ahead: neither waits for the other.
+        self.pool = concurrent.futures.ThreadPoolExecutor(cpus)
+        self.searching = concurrent.futures.ThreadPoolExecutor(cpus)
+        self.checkpoints = Checkpoints(
+            folder, self.state_file, self.first // EPOCH, spans(self.limit, EPOCH), self.saved
+        )
+        self.sightings = Sightings(self.first, self.limit, self.watched, self.searching, cpus)
+        self.windows: collections.OrderedDict[int, concurrent.futures.Future[Window]] = collections.OrderedDict()
+        self.states: collections.OrderedDict[int, concurrent.futures.Future[State]] = collections.OrderedDict()
+        self.replay_places = functools.lru_cache(None)(lambda node: text_of(all_places(node)))
+        self.replays: collections.OrderedDict[tuple[int, int], Beginning] = collections.OrderedDict()
         self.events = functools.lru_cache(KEPT_EPOCHS)(self.read_events)
-        self.changed = functools.lru_cache(KEPT_EPOCHS)(self.read_changes)
+        self.stopped_at = functools.lru_cache(KEPT_EPOCHS)(self.read_stopped)
+        self.sleeps = functools.lru_cache(None)(self.read_sleeps)
+        self.flash_of = functools.lru_cache(None)(lambda image: images.load(os.path.join(self.place, image)))
+
+    def close(self) -> None:
+        """Waits for what is under way, since it has files in the folder."""
+        for pool in (self.searching, self.pool):
+            pool.shutdown(cancel_futures=True)
 
     # ---- the simulator
 
@@ -124,182 +183,205 @@ class History:
             raise raised(f"the simulator ended with status {done.returncode}: {said}")
         return done.stdout
 
+    def saved(self, epochs: int, state: str | None) -> bytes:
+        return self.run("save", self.path, str(epochs), *([state] if state else []))
+
     def checkpoint(self, epoch: int) -> str | None:
         """The file of the state at the beginning of an epoch; None where that is reset."""
-        begun = self.first // EPOCH
-        if epoch <= begun:
-            return self.state_file
-        if epoch not in self.saved:
-            before = max((one for one in self.saved if one < epoch), default=begun)
-            state = self.saved.get(before, self.state_file)
-            words = ["save", self.path, str(epoch - before), *([state] if state else [])]
-            path = f"{self.own}/{epoch}.state"
-            files.write_whole(path, self.run(*words), lasting=False)
-            self.saved[epoch] = path
-            self.thin(epoch)
-        return self.saved[epoch]
-
-    def thin(self, newest: int) -> None:
-        """Forgets every other state that is far from the newest, where there are too many."""
-        if len(self.saved) <= KEPT_FILES:
-            return
-        for number, epoch in enumerate(sorted(self.saved)):
-            if number % 2 and abs(epoch - newest) > KEPT_FILES // 8:
-                os.unlink(self.saved.pop(epoch))
+        return self.checkpoints.made(epoch)
 
     # ---- states
 
-    def looked(self, cycle: int) -> State:
+    def state(self, cycle: int) -> State:
         """The state as a cycle begins."""
-        start = self.checkpoint(min(cycle, self.limit - 1) // EPOCH)
-        text = self.run("look", self.path, str(cycle), *([start] if start else []))
+        return self.state_soon(cycle).result()
+
+    def state_soon(self, cycle: int) -> "concurrent.futures.Future[State]":
+        """The same, asked for now."""
+        return kept(self.states, cycle, KEPT_STATES, lambda: self.pool.submit(self.looked, cycle))
+
+    def looked(self, cycle: int) -> State:
+        with self.checkpoints.state(min(cycle, self.limit - 1) // EPOCH) as start:
+            text = self.run("look", self.path, str(cycle), *([start] if start else []))
         return State.of_text(text.decode("ascii"), f"the state in cycle {cycle}")
 
     # ---- the processor's rows
 
     def traced_text(self, first: int, end: int) -> bytes:
         """The trace from the epoch on in which `first` lies, with all instructions from `first` on, up to `end`."""
-        with tempfile.NamedTemporaryFile("w", dir=self.own, suffix=".toml", encoding="utf-8", newline="") as file:
-            file.write(windowed(self.text, first, end))
+        with (
+            tempfile.NamedTemporaryFile("w", dir=self.own, suffix=".toml", encoding="utf-8", newline="") as file,
+            self.checkpoints.state(first // EPOCH) as start,
+        ):
+            file.write(f"cycles = {end}\nwindow = [{first}, {end}]\n{self.rest}")
             file.flush()
-            start = self.checkpoint(first // EPOCH)
             return self.run(*(["resume", file.name, start] if start else ["run", "--plain", file.name]))
 
-    def read_window(self, number: int) -> Window:
+    def window(self, number: int) -> Window:
         """The rows of the span with this number, each of STEP_SPAN cycles."""
+        return self.window_soon(number).result()
+
+    def window_soon(self, number: int) -> "concurrent.futures.Future[Window]":
+        """The same, asked for now."""
+        return kept(self.windows, number, KEPT_WINDOWS, lambda: self.pool.submit(self.read_window, number))
+
+    def read_window(self, number: int) -> Window:
         first, end = max(number * STEP_SPAN, self.first), min((number + 1) * STEP_SPAN, self.limit)
-        rows: list[list[Traced]] = [[] for _ in range(self.nodes)]
-        text = self.traces.get(first // SEARCH_SPAN) or self.traced_text(first, end)
-        for node, row in found_in(text, first, end, PROCESSOR):
-            rows[node].append(row)
-        return Window(rows)
+        return Window(self.traced_text(first, end), first, self.nodes)
 
     def next_row(self, node: int, cycle: int) -> Traced | None:
         """The node's first row behind a cycle, or None."""
-        for number in range(cycle // STEP_SPAN, spans(self.limit, STEP_SPAN)):
-            window = self.window(number)
-            place = bisect.bisect_right(window.cycles[node], cycle)
-            if place < len(window.rows[node]):
-                return window.rows[node][place]
-            if self.is_quiet(node, number):
-                return self.woken(node, number)
+        number = cycle // STEP_SPAN
+        while number < spans(self.limit, STEP_SPAN):
+            rows, cycles = self.window(number).of(node)
+            place = bisect.bisect_right(cycles, cycle)
+            if place < len(rows):
+                return rows[place]
+            number += 1
+            for ahead in range(number, min(number + WINDOWS_AHEAD, spans(self.limit, STEP_SPAN))) if rows else ():
+                self.window_soon(ahead)
+            if not rows and number < spans(self.limit, STEP_SPAN):
+                waking = self.waking(node, number * STEP_SPAN)
+                if waking is None:
+                    return None
+                number = max(number, (waking - WAKING) // STEP_SPAN)
         return None
 
     def last_row(self, node: int, cycle: int) -> Traced | None:
         """The node's last row before a cycle, or None."""
-        number = min(cycle, self.limit - 1) // STEP_SPAN
-        lowest = self.first // STEP_SPAN
+        number, lowest = min(cycle, self.limit - 1) // STEP_SPAN, self.first // STEP_SPAN
         while number >= lowest:
-            window = self.window(number)
-            place = bisect.bisect_left(window.cycles[node], cycle)
+            rows, cycles = self.window(number).of(node)
+            place = bisect.bisect_left(cycles, cycle)
             if place:
-                return window.rows[node][place - 1]
-            number, cycle = number - 1, self.limit
-            if number >= lowest and not self.window(number).rows[node]:
-                return self.found_before(node, number * STEP_SPAN)
+                return rows[place - 1]
+            if not rows:
+                quiet = self.quiet_since(node, number * STEP_SPAN)
+                if quiet is None:
+                    return None
+                number = quiet // STEP_SPAN
+            else:
+                number -= 1
         return None
 
-    def is_quiet(self, node: int, number: int) -> bool:
-        """Whether the node has no row in a span, so that one looks further by larger steps."""
-        return not self.window(number).rows[node]
+    def waking(self, node: int, cycle: int) -> int | None:
+        """In which cycle from this one on a node that sleeps begins an interrupt; None where it never does."""
+        places = [Place(node, Kind.AT, word) for word in VECTORS]
+        for _, seen in self.sightings.searched(self.sightings.pieces_on(cycle, self.limit), places):
+            if seen:
+                return seen[0].cycle
+        return None
 
-    def woken(self, node: int, number: int) -> Traced | None:
-        return next((row for _, row in self.hits(number * STEP_SPAN, self.limit, rows_like({node}))), None)
+    def quiet_since(self, node: int, cycle: int) -> int | None:
+        """In which cycle before this one a node that is quiet stopped or fell asleep; None where it never did."""
+        if (stop := self.stop_before(node, cycle)) is not None:
+            return stop
+        places = [Place(node, Kind.AT, word) for word in self.sleeps(self.scenario.images[node])]
+        for _, seen in self.sightings.searched(self.sightings.pieces_back(cycle, self.first), places) if places else ():
+            if seen:
+                return seen[-1].cycle
+        return None
 
-    def found_before(self, node: int, cycle: int) -> Traced | None:
-        return next((row for _, row in self.hits_back(cycle, rows_like({node}))), None)
+    def flash(self, node: int) -> bytes:
+        return self.flash_of(self.scenario.images[node])
 
-    # ---- searches
+    def read_sleeps(self, image: str) -> list[int]:
+        """The word addresses of all that may be an instruction `sleep` in an image."""
+        flash = self.flash_of(image)
+        return [at // 2 for at in range(0, len(flash), 2) if flash[at : at + 2] == SLEEP]
 
-    def hits(self, first: int, end: int, like: re.Pattern[bytes]) -> Iterator[tuple[int, Traced]]:
-        """The rows of the processor from a cycle on and before another that are like this (`rows_like`), in order."""
-        for span, text in self.searched(first, end):
-            yield from found_in(text, max(first, span), end, like)
+    # ---- a node in short spans
 
-    def hits_back(self, end: int, like: re.Pattern[bytes], first: int | None = None) -> Iterator[tuple[int, Traced]]:
-        """Those before a cycle and from another on, which is the run's first where it is None; the last first."""
-        lowest = self.first if first is None else first
-        for span, text in self.searched_back(lowest, end):
-            yield from found_back(text, max(span, lowest), end, like)
+    def foresee(self, node: int, cycle: int) -> None:
+        """Asks for the node's replay and all rows about a cycle, and beside it where that is near."""
+        number, place = divmod(cycle, STEP_SPAN)
+        for beside in (number, number + 1) if place > STEP_SPAN - NEAR else (number, number - 1) if place < NEAR else (number,):
+            if not self.first // STEP_SPAN <= beside < spans(self.limit, STEP_SPAN):
+                continue
+            self.window_soon(beside)
+            kept(self.replays, (node, beside), KEPT_REPLAYS, lambda: self.begin_replay(node, beside))
 
-    def searched(self, first: int, end: int) -> Iterator[tuple[int, bytes]]:
-        """The traces of the spans from a cycle on, some made ahead."""
-        return self.made_ahead(range(first // SEARCH_SPAN, spans(min(end, self.limit), SEARCH_SPAN)))
+    def begin_replay(self, node: int, number: int) -> Beginning:
+        first, end = max(number * STEP_SPAN, self.first), min((number + 1) * STEP_SPAN, self.limit)
+        text = self.pool.submit(self.watched_text, first, end, self.replay_places(node))
+        return Beginning(self.state_soon(first), text)
 
-    def searched_back(self, first: int, end: int) -> Iterator[tuple[int, bytes]]:
-        return self.made_ahead(range(spans(min(end, self.limit), SEARCH_SPAN) - 1, first // SEARCH_SPAN - 1, -1))
+    def replayed(self, node: int, cycle: int) -> bytearray | None:
+        """The bytes of a node as a cycle begins, as `Replay.at` tells them; None where they were not asked for."""
+        begun = self.replays.get((node, cycle // STEP_SPAN))
+        return begun.replay(node).at(cycle) if begun else None
 
-    def made_ahead(self, numbers: Sequence[int]) -> Iterator[tuple[int, bytes]]:
-        """The traces of spans in the order of their numbers; while one is looked at, the next are made."""
-        self.was_stopped = False
-        ahead = 1  # the first is mostly enough
-        cpus = os.cpu_count() or 1
-        waiting: collections.deque[tuple[int, concurrent.futures.Future[bytes]]] = collections.deque()
-        left = iter(numbers)
-        with concurrent.futures.ThreadPoolExecutor(cpus) as pool:
-            try:
-                while True:
-                    while len(waiting) < ahead and (number := next(left, None)) is not None:
-                        first = max(number * SEARCH_SPAN, self.first)
-                        self.checkpoint(first // EPOCH)  # here, since files are made one by one
-                        waiting.append((first, pool.submit(self.searched_text, number)))
-                    if not waiting:
-                        return
-                    first, made = waiting.popleft()
-                    yield first, self.keep(first // SEARCH_SPAN, made.result())
-                    ahead = cpus
-                    if self.wants_stop and self.wants_stop():
-                        self.was_stopped = True
-                        return
-            finally:
-                for _, made in waiting:
-                    made.cancel()
+    def row_at(self, node: int, cycle: int) -> Traced | None:
+        """The node's row in a cycle, where the rows about it are known and it has one."""
+        number = cycle // STEP_SPAN
+        if (node, number) not in self.replays:
+            return None
+        rows, cycles = self.window(number).of(node)
+        place = bisect.bisect_left(cycles, cycle)
+        return rows[place] if cycles[place : place + 1] == [cycle] else None
 
-    def searched_text(self, number: int) -> bytes:
-        """The trace of a span to search, which may have been made before."""
-        if (text := self.traces.get(number)) is not None:
-            return text
-        return self.traced_text(max(number * SEARCH_SPAN, self.first), min((number + 1) * SEARCH_SPAN, self.limit))
+    def doing(self, node: int, cycle: int) -> Doing:
+        """What a node does as a cycle begins: from a state and rows, where both are known about there."""
+        number = cycle // STEP_SPAN
+        known = [one for one, state in self.states.items() if one <= cycle and one // STEP_SPAN == number and state.done()]
+        if number not in self.windows or not known:
+            known = [cycle]
+        begin = max(known)
+        one = self.state(begin).nodes[node]
+        if begin == cycle or one.stop():
+            return Doing(one.stop(), bool(one["asleep"]))
+        rows, cycles = self.window(number).of(node)
+        since = rows[bisect.bisect_left(cycles, begin) : bisect.bisect_left(cycles, cycle)]
+        if not since:
+            return Doing(None, bool(one["asleep"]))
+        return Doing(since[-1].rest if since[-1].kind == "stop" else None, since[-1].rest == "sleep")
 
-    def keep(self, number: int, text: bytes) -> bytes:
-        """Keeps the trace of a span as the latest, and as many of those before as there is room for."""
-        self.traces.pop(number, None)
-        self.traces[number] = text
-        while sum(map(len, self.traces.values())) > KEPT_BYTES and len(self.traces) > 1:
-            del self.traces[next(iter(self.traces))]
-        return text
+    # ---- places
 
-    # ---- bytes that change
+    def watched(self, first: int, end: int, places: list[Place]) -> bytes:
+        """What is seen at places from a cycle on and before another, which lie in one epoch."""
+        return self.watched_text(first, end, text_of(places))
 
-    def read_changes(self, epoch: int, places: tuple[Place, ...]) -> list[Change]:
-        """What happens in an epoch at places."""
-        first, end = max(epoch * EPOCH, self.first), min((epoch + 1) * EPOCH, self.limit)
-        with tempfile.NamedTemporaryFile("w", dir=self.own, encoding="ascii") as file:
-            file.write(text_of(places))
+    def watched_text(self, first: int, end: int, places: str) -> bytes:
+        with (
+            tempfile.NamedTemporaryFile("w", dir=self.own, encoding="ascii") as file,
+            self.checkpoints.state(first // EPOCH) as start,
+        ):
+            file.write(places)
             file.flush()
-            start = self.checkpoint(epoch)
-            text = self.run("watch", self.path, str(first), str(end), file.name, *([start] if start else []))
-        return [change_of(line) for line in text.decode("ascii").splitlines(keepends=True)]
+            return self.run("watch", self.path, str(first), str(end), file.name, *([start] if start else []))
 
-    # ---- sends, samples, USART0
+    # ---- sends, samples, USART0, stops
 
     def read_events(self, epoch: int) -> list[Happened]:
         """The rows of an epoch that are not the processor's."""
-        first, end = epoch * EPOCH, min((epoch + 1) * EPOCH, self.limit)
-        with tempfile.NamedTemporaryFile("w", dir=self.own, suffix=".toml", encoding="utf-8", newline="") as file:
-            file.write(windowed(self.text, end - 1, end))
-            file.flush()
-            start = self.checkpoint(epoch)
-            text = self.run(*(["resume", file.name, start] if start else ["run", "--plain", file.name]))
+        first, end = max(epoch * EPOCH, self.first), min((epoch + 1) * EPOCH, self.limit)
+        text = self.traced_text(end - 1, end)
         rows = (Happened(int(it[1]), int(it[2]), it[3].decode(), it[4].decode()) for it in OTHER.finditer(text))
         return [row for row in rows if first <= row.cycle < end]
 
-    def stops(self, first: int, end: int) -> Iterator[tuple[int, Traced]]:
+    def read_stopped(self, epoch: int) -> frozenset[int]:
+        """The nodes that stand still as an epoch begins, for good."""
+        with self.checkpoints.state(epoch) as path:
+            lines = files.read_text(path).split("\n") if path else []
+        found = [line.split(" ") for line in lines if line.startswith("core ")]
+        return frozenset(int(words[1]) for words in found if words[STOP_PLACE] != "0")
+
+    def stops(self, first: int, end: int) -> list[tuple[int, Traced]]:
         """The rows with which nodes stop in the epoch of a cycle, from that cycle on and before another."""
-        for one in self.events(first // EPOCH):
-            if one.kind == "stop" and first <= one.cycle < end:
-                address, _, cause = one.rest.partition(" ")
-                yield one.node, Traced(one.cycle, one.kind, int(address, 16), cause)
+        epoch = first // EPOCH
+        if (epoch + 1) * EPOCH < self.limit and self.stopped_at(epoch + 1) == self.stopped_at(epoch):
+            return []
+        return [
+            (one.node, stop_of(one)) for one in self.events(epoch) if one.kind == "stop" and first <= one.cycle < end
+        ]
+
+    def stop_before(self, node: int, cycle: int) -> int | None:
+        """In which cycle before this one the node stopped; None where it did not."""
+        epoch = min(max(cycle - 1, 0), self.limit - 1) // EPOCH
+        while epoch > self.first // EPOCH and node in self.stopped_at(epoch):
+            epoch -= 1
+        return next((row.cycle for whose, row in self.stops(epoch * EPOCH, cycle) if whose == node), None)
 
     def events_from(self, cycle: int) -> Iterator[Happened]:
         """The events behind a cycle, in order."""
@@ -325,41 +407,37 @@ def mark_of(path: str) -> Mark:
     return found.st_ino, found.st_size, found.st_mtime_ns, found.st_ctime_ns
 
 
+Key = TypeVar("Key")
+Value = TypeVar("Value")
+
+
+def kept(
+    all_: "collections.OrderedDict[Key, Value]", key: Key, most: int, make: Callable[[], Value]
+) -> Value:
+    """A value by its key, made where it is not kept; the one used last behind the others."""
+    if key not in all_:
+        all_[key] = make()
+    all_.move_to_end(key)
+    while len(all_) > most:
+        all_.popitem(last=False)
+    return all_[key]
+
+
 def spans(end: int, length: int) -> int:
     """How many spans of a length cover the cycles below `end`."""
     return (end + length - 1) // length
 
 
-def rows_like(nodes: Iterable[int] | None, addresses: Iterable[int] | None = None) -> re.Pattern[bytes]:
-    """What finds the rows of the processor of these nodes, or of all; with addresses, word addresses, those at which an
-    instruction begins there, and each stop."""
-    number = rb"\d+" if nodes is None else b"(?:%s)" % b"|".join(b"%d" % node for node in sorted(nodes))
-    if addresses is None:
-        return re.compile(rb"^\d+ %s (?:instr|enter|stop) [^\n]*" % number, re.M)
-    places = b"|".join(b"%04X" % address for address in sorted(addresses))
-    begins = rb"instr (?:%s)|" % places if places else b""
-    return re.compile(rb"^\d+ %s (?:%sstop) [^\n]*" % (number, begins), re.M)
-
-
-def found_in(text: bytes, first: int, end: int, like: re.Pattern[bytes]) -> Iterator[tuple[int, Traced]]:
-    """The rows of a trace from a cycle on and before another that are like this: node and row."""
-    yield from map(traced_of, like.finditer(text, line_at(text, first), line_at(text, end)))
-
-
-def found_back(text: bytes, first: int, end: int, like: re.Pattern[bytes]) -> Iterator[tuple[int, Traced]]:
-    """The same, the last first."""
-    lowest, place = line_at(text, first), line_at(text, end)
-    while place > lowest:
-        begin = max(lowest, text.rfind(b"\n", 0, max(place - PIECE, 0)) + 1)
-        yield from map(traced_of, reversed(list(like.finditer(text, begin, place))))
-        place = begin
-
-
-def traced_of(match: re.Match[bytes]) -> tuple[int, Traced]:
-    cycle, node, kind, address, *rest = match[0].decode("ascii").split(" ", 4)
+def traced_of(line: str) -> Traced:
+    cycle, _, kind, address, *rest = line.split(" ", 4)
     if kind == "enter":
-        return int(node), Traced(int(cycle), kind, int(rest[0], 16), address)
-    return int(node), Traced(int(cycle), kind, int(address, 16), rest[0])
+        return Traced(int(cycle), kind, int(rest[0], 16), address)
+    return Traced(int(cycle), kind, int(address, 16), rest[0])
+
+
+def stop_of(row: Happened) -> Traced:
+    address, _, cause = row.rest.partition(" ")
+    return Traced(row.cycle, row.kind, int(address, 16), cause)
 
 
 def line_at(text: bytes, cycle: int) -> int:
@@ -382,4 +460,8 @@ def history(
     """The run of a scenario, from a state on or from reset, with a folder of its own while it is used. Its images are in
     the folder `place`, else beside the scenario."""
     with tempfile.TemporaryDirectory(prefix="avrora-gdb-") as folder:
-        yield History(scenario, simulator, folder, state, place)
+        found = History(scenario, simulator, folder, state, place)
+        try:
+            yield found
+        finally:
+            found.close()

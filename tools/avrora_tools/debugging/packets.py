@@ -1,7 +1,6 @@
 """Packets of gdb's remote protocol (its manual, "Remote Protocol", "Overview") over a pair of streams of bytes."""
 import os
 import select
-from collections.abc import Callable
 
 INTERRUPT = 0x03
 ESCAPE, ESCAPED_BY = 0x7D, 0x20
@@ -62,6 +61,10 @@ class Channel:
                 return packet
             self.fill()
 
+    def waits(self, seconds: float) -> bool:
+        """Whether something lies here to be read, or comes within so many seconds."""
+        return bool(self.buffer or select.select([self.source], [], [], seconds)[0])
+
     def send(self, data: bytes) -> None:
         self.last = framed(data)
         self.write(self.last)
@@ -116,7 +119,3 @@ class Channel:
                 self.write(b"+")
                 return unescaped(content)
             self.write(b"-")
-
-
-# Sends a text to the user of gdb, while something goes on.
-Tell = Callable[[str], None]

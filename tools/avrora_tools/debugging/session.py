@@ -1,24 +1,26 @@
 """One gdb: where it stands in the run, and what it asks."""
 import os
 import re
-from collections.abc import Callable, Iterator
-from typing import NamedTuple
+from collections.abc import Callable
 
 from avrora_tools import images
-from avrora_tools.debugging import target
-from avrora_tools.debugging.history import History, Traced, rows_like
+from avrora_tools.debugging import replays, target
+from avrora_tools.debugging.history import History
+from avrora_tools.debugging.inferiors import NUMBER as NUMBER_TEXT
+from avrora_tools.debugging.inferiors import THREAD as THREAD_TEXT
+from avrora_tools.debugging.inferiors import Inferiors
+from avrora_tools.debugging.motion import Action, Motion, Place, Point, Stop
 from avrora_tools.debugging.packets import Channel
-from avrora_tools.debugging.watchpoints import Range, Watchpoints, Write
+from avrora_tools.debugging.watchpoints import Range
 from avrora_tools.debugging.words import Words
 from avrora_tools.errors import ToolError
-from avrora_tools.states import EPOCH, Node
+from avrora_tools.states import Node
 
-TRAP, INTERRUPTED, ILLEGAL = 5, 2, 4  # numbers of signals, as gdb has them
 LARGEST_PACKET = 0x4000
 
 SUPPORTED = (
     f"PacketSize={LARGEST_PACKET:x};ReverseStep+;ReverseContinue+;swbreak+;hwbreak+;vContSupported+;QStartNoAckMode+;"
-    "qXfer:memory-map:read+;qXfer:threads:read+"
+    "qXfer:memory-map:read+;qXfer:threads:read+;qXfer:exec-file:read+"
 )
 
 FIXED = b"E.a run is a fact: nothing of it can be changed"
@@ -26,87 +28,73 @@ NO_ANSWER = b""  # of what this does not know
 MALFORMED = b"E.malformed packet"
 
 # What stands behind the first letters of packets: numbers of at most 64 bits in hexadecimal digits.
-NUMBER = rb"[0-9a-fA-F]{1,16}"
-THREAD = rb"(?:-1|%s)" % NUMBER
+NUMBER, THREAD = NUMBER_TEXT.encode(), THREAD_TEXT.encode()
 FORMS = {
     b"qXfer:memory-map:read::": rb"%s,%s" % (NUMBER, NUMBER),
     b"qXfer:threads:read::": rb"%s,%s" % (NUMBER, NUMBER),
-    b"qThreadExtraInfo,": NUMBER,
+    b"qXfer:exec-file:read:": rb"(?:%s)?:%s,%s" % (NUMBER, NUMBER, NUMBER),
+    b"qThreadExtraInfo,": THREAD,
     b"qRcmd,": rb"(?:[0-9a-fA-F]{2})*",
     b"vCont": rb"(?:;[cCsS][0-9a-fA-F]*(?::%s)?|;r%s,%s(?::%s)?)+" % (THREAD, NUMBER, NUMBER, THREAD),
     b"p": NUMBER,
     b"m": rb"%s,%s" % (NUMBER, NUMBER),
     b"H": rb"[a-z](?:%s)?" % THREAD,
-    b"T": NUMBER,
+    b"T": THREAD,
+    b"D": rb"(?:;%s)?" % NUMBER,
+    b"vKill": rb";%s" % NUMBER,
     **dict.fromkeys((b"Z0", b"Z1", b"z0", b"z1"), rb",%s,%s.*" % (NUMBER, NUMBER)),
 }
 
-# Behind so many rows a step looks whether gdb asks it to stop.
-ROWS_A_LOOK = 256
+THINKING = 0.05  # seconds without a packet: gdb waits for its user
 
+PC = 34  # as gdb numbers registers
 
-class Place(NamedTuple):
-    """Where gdb stands: before what the node does in this cycle. Nodes do their cycle in order of number."""
-
-    cycle: int
-    node: int
-
-
-class Stop(NamedTuple):
-    """Why a run through time ended."""
-
-    signal: int = TRAP
-    more: str = ""  # behind the thread in gdb's stop reply
 
 
 class Ended(Exception):
     """gdb takes its leave."""
 
 
-class Action(NamedTuple):
-    """What a thread is to do: step (over a range of byte addresses) or go on, alone or with all others."""
-
-    steps: bool
-    first: int
-    end: int
-    alone: bool
-    node: int
-
-
 class Session:
     """Answers the packets of one gdb."""
 
-    def __init__(self, history: History, channel: Channel, cycle: int = 0, node: int = 0) -> None:
+    def __init__(
+        self,
+        history: History,
+        channel: Channel,
+        cycle: int = 0,
+        node: int = 0,
+        inferiors: Inferiors | None = None,
+    ) -> None:
         self.history, self.channel = history, channel
-        self.at = Place(cycle, node)
-        self.points: dict[int, int] = {}  # word addresses of breakpoints: how often each is set
-        # Where gdb stood before it took its breakpoints out for one step: those of other nodes may have been passed by.
-        self.unseen: Place | None = None
-        self.watches = Watchpoints(history)
-        # The write behind which gdb stands, where it stopped for one.
-        self.told_write: tuple[Place, Write] | None = None
-        self.shows_interrupts = False
+        self.inferiors = inferiors or Inferiors(history.scenario)
         history.refuse_changes()
-        self.flashes = [images.load(os.path.join(history.place, image)) for image in history.scenario.images]
+        self.flashes = [history.flash(node) for node in self.nodes()]
+        self.motion = Motion(history, Place(cycle, node), self.inferiors.of_node, channel.has_interrupt, self.tell)
+        self.general = self.shown = node  # the node that gdb asks about; the one that its user looks at
+        self.shown_before = node  # the choice before
+        self.going = list(self.nodes())  # those that gdb lets go
+        self.detached: set[int] = set()  # programs that gdb is done with
         self.words = Words(self)
         self.answers: list[tuple[bytes, Callable[[bytes], bytes | None]]] = [
-            (b"qSupported", lambda _: SUPPORTED.encode()),
+            (b"qSupported", self.negotiate),
             (b"QStartNoAckMode", self.stop_acknowledging),
             (b"qXfer:memory-map:read::", self.read_memory_map),
             (b"qXfer:threads:read::", self.read_threads),
+            (b"qXfer:exec-file:read:", self.read_exec_file),
             (b"qfThreadInfo", self.list_threads),
             (b"qsThreadInfo", lambda _: b"l"),
             (b"qThreadExtraInfo,", self.tell_thread),
-            (b"qC", lambda _: b"QC%x" % (self.at.node + 1)),
+            (b"qC", lambda _: f"QC{self.inferiors.thread(self.motion.at.node)}".encode()),
             (b"qAttached", lambda _: b"1"),
             (b"qSymbol", lambda _: b"OK"),
             (b"qRcmd,", self.command),
             (b"vCont?", lambda _: b"vCont;c;C;s;S;r"),
             (b"vCont", self.resume),
             (b"vMustReplyEmpty", lambda _: NO_ANSWER),
-            (b"vKill", self.end),
+            (b"vKill", self.leave),
             (b"?", lambda _: self.told(Stop())),
-            (b"g", lambda _: target.registers(self.state()).hex().encode()),
+            (b"g", lambda _: self.registers(self.general).hex().encode()),
             (b"p", self.read_register),
             (b"m", self.read_memory),
             (b"G", lambda _: FIXED),
@@ -121,11 +109,11 @@ class Session:
             (b"z0", self.clear_point),
             (b"z1", self.clear_point),
             (b"z2", self.clear_watch),
-            (b"bs", lambda _: self.told(self.step_back())),
-            (b"bc", lambda _: self.told(self.go_back())),
-            (b"s", self.step_on),
-            (b"c", lambda _: self.told(self.go_on())),
-            (b"D", self.end),
+            (b"bs", lambda _: self.told(self.motion.step_back(self.continuing()))),
+            (b"bc", lambda _: self.told(self.motion.go_back(self.going))),
+            (b"s", lambda _: self.told(self.motion.step(Action(True, 0, 0, True, self.continuing(), [])))),
+            (b"c", lambda _: self.told(self.motion.go_on(self.going))),
+            (b"D", self.leave),
             (b"k", self.end),
         ]
 
@@ -134,6 +122,8 @@ class Session:
     def serve(self) -> None:
         """Answers until gdb takes its leave, or is gone."""
         while True:
+            if not self.channel.waits(THINKING):
+                self.motion.rest()
             packet = self.channel.receive()
             try:
                 answer = self.answered(packet)
@@ -159,66 +149,125 @@ class Session:
     def end(self, _: bytes) -> bytes:
         raise Ended
 
+    def leave(self, packet: bytes) -> bytes:
+        """gdb is done with an inferior, or with all where it names none."""
+        _, named, process = packet.decode("ascii").partition(";")
+        if named and self.inferiors.are_several:
+            self.detached.add(int(process, 16) - 1)
+        if not named or set(self.inferiors.of_node) <= self.detached or not self.inferiors.are_several:
+            raise Ended
+        return b"OK"
+
+    def negotiate(self, packet: bytes) -> bytes:
+        several = self.inferiors.negotiate(packet.decode("ascii", "replace").partition(":")[2])
+        return (SUPPORTED + ";multiprocess+" * several).encode()
+
     def tell(self, text: str) -> None:
         """Shows a text to the user while a run through time is under way."""
         self.channel.send(b"O" + (text + "\n").encode().hex().encode())
 
     def told(self, stop: Stop) -> bytes:
-        return f"T{stop.signal:02x}thread:{self.at.node + 1:x};{stop.more}".encode()
+        node = self.general = self.shown = self.shown_before = self.motion.at.node
+        self.going = list(self.nodes())
+        thread = self.inferiors.thread(node)
+        return f"T{stop.signal:02x}thread:{thread};{self.known_registers(node)}{stop.more}".encode()
+
+    def known_registers(self, node: int) -> str:
+        """Registers for a stop reply, as far as no call of the simulator is made for them."""
+        if self.motion.word is None:
+            return ""
+        counter = (2 * self.motion.word).to_bytes(4, "little").hex()
+        data = self.history.replayed(node, self.motion.at.cycle)
+        found = "".join(f"{number:02x}:{at.hex()};" for number, at in enumerate(target.without_counter(data))) if data else ""
+        return f"{found}{PC:02x}:{counter};"
 
     # ---- what there is
 
-    def state(self) -> Node:
-        return self.history.state(self.at.cycle).nodes[self.at.node]
+    def state(self, node: int) -> Node:
+        return self.history.state(self.motion.at.cycle).nodes[node]
+
+    def registers(self, node: int) -> bytes:
+        cycle = self.motion.at.cycle
+        if (row := self.history.row_at(node, cycle)) and (data := self.history.replayed(node, cycle)):
+            return b"".join(target.without_counter(data)) + (2 * row.address).to_bytes(4, "little")
+        return target.registers(self.state(node))
 
     def read_register(self, packet: bytes) -> bytes:
         number = int(packet[1:], 16)
         if number >= len(target.PLACES):
             return b"E.no such register"
         first, length = target.PLACES[number]
-        return target.registers(self.state())[first : first + length].hex().encode()
+        return self.registers(self.general)[first : first + length].hex().encode()
 
     def read_memory(self, packet: bytes) -> bytes:
         address, length = (int(part, 16) for part in packet[1:].split(b","))
         length = min(length, LARGEST_PACKET // 2 - 8)
-        found = target.memory(self.state(), self.flashes[self.at.node], address, length)
+        found = self.memory(self.general, address, length)
         return found.hex().encode() if found or not length else b"E.no memory there"
+
+    def memory(self, node: int, address: int, length: int) -> bytes:
+        """So many bytes from an address of avr-gdb on, fewer at the end of a memory; none where there is none."""
+        if address < target.DATA_SPACE:
+            return self.flashes[node][address : address + length]
+        at = address - target.DATA_SPACE
+        if replays.is_replayed(at, length) and (data := self.history.replayed(node, self.motion.at.cycle)):
+            return bytes(data[at : at + length])
+        return target.data_space(self.state(node))[at : at + length]
 
     def read_memory_map(self, packet: bytes) -> bytes:
         return part_of(target.memory_map(images.FLASH_BYTES), packet)
 
     def read_threads(self, packet: bytes) -> bytes:
-        rows = [f'<thread id="{node + 1:x}" name="node {node}">{self.about(node)}</thread>' for node in self.nodes()]
+        rows = [
+            f'<thread id="{self.inferiors.thread(node)}" name="node {node}">{self.about(node)}</thread>'
+            for node in self.attached()
+        ]
         return part_of(f'<?xml version="1.0"?><threads>{"".join(rows)}</threads>'.encode(), packet)
 
+    def read_exec_file(self, packet: bytes) -> bytes:
+        path = self.inferiors.elf(packet.split(b":")[3].decode("ascii"))
+        return part_of(os.fsencode(os.path.abspath(path)), packet) if path else b"E.no ELF file is named: -e ELF"
+
     def list_threads(self, _: bytes) -> bytes:
-        return b"m" + b",".join(b"%x" % (node + 1) for node in self.nodes())
+        return b"m" + ",".join(self.inferiors.thread(node) for node in self.attached()).encode()
 
     def tell_thread(self, packet: bytes) -> bytes:
-        node = int(packet.split(b",")[1], 16) - 1
-        return f"node {node}, {self.about(node)}".encode().hex().encode() if node in self.nodes() else b"E.no such node"
+        node = self.named(packet.split(b",")[1])
+        return b"E.no such node" if node is None else f"node {node}, {self.about(node)}".encode().hex().encode()
 
     def nodes(self) -> range:
         return range(self.history.nodes)
 
+    def attached(self) -> list[int]:
+        """The nodes of all programs that gdb is not done with."""
+        return [node for node in self.nodes() if self.inferiors.of_node[node] not in self.detached]
+
+    def named(self, thread: bytes) -> int | None:
+        """The one node that a packet names; None where it names several, or none."""
+        found = self.inferiors.named(thread.decode("ascii"))
+        return found[0] if len(found) == 1 else None
+
     def about(self, node: int) -> str:
         """What a node does now, in words."""
-        one = self.history.state(self.at.cycle).nodes[node]
-        cause = one.stop()
-        does = f"stopped: {cause}" if cause else "asleep" if one["asleep"] else "awake"
-        return f"cycle {self.at.cycle:,}, {does}"
+        stop, asleep = self.history.doing(node, self.motion.at.cycle)
+        does = f"stopped: {stop}" if stop else "asleep" if asleep else "awake"
+        return f"cycle {self.motion.at.cycle:,}, {does}"
 
     def choose(self, packet: bytes) -> bytes:
-        thread = int(packet[2:] or b"0", 16)
-        if thread > 0:
-            if thread - 1 not in self.nodes():
-                return b"E.no such node"
-            if packet[1:2] == b"g":
-                self.at = self.at._replace(node=thread - 1)
+        """Hg: whom gdb asks about; Hc: whom it lets go."""
+        found = self.inferiors.named(packet[2:].decode("ascii"))
+        if not found:
+            return b"E.no such node"
+        one = packet[2:] not in (b"", b"0", b"-1") and len(found) == 1
+        if packet[1:2] == b"c":
+            self.going = found
+        elif one:
+            self.shown_before = self.shown
+            self.general = self.shown = found[0]
         return b"OK"
 
     def is_alive(self, packet: bytes) -> bytes:
-        return b"OK" if int(packet[1:], 16) - 1 in self.nodes() else b"E.no such node"
+        return b"E.no such node" if self.named(packet[1:]) is None else b"OK"
 
     def command(self, packet: bytes) -> bytes:
         text = self.words.answer(bytes.fromhex(packet.split(b",", 1)[1].decode("ascii")).decode("utf-8", "replace"))
@@ -226,25 +275,28 @@ class Session:
 
     # ---- breakpoints
 
+    def point(self, packet: bytes) -> Point:
+        self.shown = self.shown_before  # gdb chose a node of the program, and its user did not
+        return Point(self.program(), int(packet.split(b",")[1], 16) // 2)
+
+    def program(self) -> int:
+        return self.inferiors.of_node[self.general]
+
     def set_point(self, packet: bytes) -> bytes:
-        word = int(packet.split(b",")[1], 16) // 2
-        self.points[word] = self.points.get(word, 0) + 1
+        self.motion.add_point(self.point(packet))
         return b"OK"
 
     def clear_point(self, packet: bytes) -> bytes:
-        word = int(packet.split(b",")[1], 16) // 2
-        left = self.points.pop(word, 0) - 1
-        if left > 0:
-            self.points[word] = left
+        self.motion.remove_point(self.point(packet))
         return b"OK"
 
     def set_watch(self, packet: bytes) -> bytes:
-        if self.watches.insert(range_of(packet), self.at.node):
+        if self.motion.watches.insert(range_of(packet), self.general):
             return b"OK"
         return b"E.only registers, SP, SREG, kept I/O bytes and the SRAM can be watched"
 
     def clear_watch(self, packet: bytes) -> bytes:
-        self.watches.remove(range_of(packet))
+        self.motion.watches.remove(range_of(packet), self.general)
         return b"OK"
 
     # ---- runs through time
@@ -252,230 +304,21 @@ class Session:
     def resume(self, packet: bytes) -> bytes:
         """vCont: what the first thread that is named does; the others go on with it, or only time does."""
         action = self.action_of(packet.decode("ascii"))
-        self.at = self.at._replace(node=action.node)
-        if action.steps:
-            return self.told(self.step(action))
-        return self.told(self.go_on(only=action.node if action.alone else None))
+        return self.told(self.motion.step(action) if action.steps else self.motion.go_on(action.others))
 
     def action_of(self, packet: str) -> Action:
-        parts = [part.partition(":") for part in packet.split(";")[1:]]
-        word, _, thread = parts[0]
-        node = int(thread, 16) - 1 if thread and thread != "-1" else self.at.node
+        parts = [part.partition(":")[::2] for part in packet.split(";")[1:]]
+        word, thread = parts[0]
+        named = self.inferiors.named(thread)
+        node = named[0] if thread and len(named) == 1 else self.motion.at.node
         ranged = re.fullmatch("r([0-9a-f]+),([0-9a-f]+)", word)
         first, end = (int(ranged[1], 16), int(ranged[2], 16)) if ranged else (0, 0)
-        alone = bool(thread) and len(parts) == 1
-        return Action(word[:1] in "sSr", first, end, alone, node if node in self.nodes() else self.at.node)
+        others = sorted({one for _, thread in parts for one in self.inferiors.named(thread)})
+        return Action(word[:1] in "sSr", first, end, bool(thread) and len(parts) == 1, node, others)
 
-    def step_on(self, _: bytes) -> bytes:
-        return self.told(self.step(Action(True, 0, 0, True, self.at.node)))
-
-    def step(self, action: Action) -> Stop:
-        """To the node's next instruction, the first outside of the range where there is one."""
-        before = self.at
-        stop = self.stepped(action)
-        if not action.alone and (other := self.point_of_others(before)):
-            self.at = other
-            return self.hit(None)
-        if action.alone:
-            self.unseen = self.unseen or before
-        return stop
-
-    def stepped(self, action: Action) -> Stop:
-        for count, row in enumerate(self.steps_from(self.at.cycle), 1):
-            self.at = Place(row.cycle, self.at.node)
-            if row.kind == "stop":
-                return self.stopped_by(row)
-            if not action.first <= 2 * row.address < action.end or row.address in self.points:
-                return Stop()
-            if count % ROWS_A_LOOK == 0 and self.channel.has_interrupt():
-                return Stop(INTERRUPTED)
-        return self.at_end()
-
-    def steps_from(self, cycle: int) -> Iterator[Traced]:
-        """The node's rows behind a cycle; interrupts are stepped over, unless they are to be shown or a breakpoint lies
-        in them."""
-        depth = 0
-        while (row := self.history.next_row(self.at.node, cycle)) is not None:
-            cycle = row.cycle
-            if self.shows_interrupts or row.kind == "stop":
-                yield row
-            elif row.kind == "enter":
-                depth += 1
-            elif depth and row.rest == "reti":
-                depth -= 1
-            elif not depth or row.address in self.points:
-                yield row
-
-    def point_of_others(self, before: Place) -> Place | None:
-        """The first breakpoint that another node meets before where this one stands now."""
-        if not self.points:
-            return None
-        for node, row in self.history.hits(before.cycle, self.at.cycle + 1, rows_like(None, self.points)):
-            if node != self.at.node and before < Place(row.cycle, node) < self.at and row.kind == "instr":
-                return Place(row.cycle, node)
-        return None
-
-    def go_on(self, only: int | None = None) -> Stop:
-        """To the next breakpoint of any node, or of one alone; behind the next write of what is watched; to a stop, or
-        to the end of the run."""
-        start, own = self.unseen or self.at, self.at
-        self.unseen = None
-        self.watches.go()
-        for first, end in self.spans_on(start.cycle):
-            write = self.next_write(first // EPOCH, own, only)
-            row = self.next_hit(start, own, (first, write.last + 1 if write else end), only)
-            if isinstance(row, Stop):
-                return row
-            if write and (row is None or Place(write.last, write.node) < self.at):
-                return self.written(write)
-            if row:
-                return self.hit(row)
-        return self.at_end()
-
-    def next_hit(self, start: Place, own: Place, span: tuple[int, int], only: int | None) -> Traced | Stop | None:
-        """The next breakpoint or stop in a span, where this then stands; Stop where gdb asks to stop before."""
-        like = rows_like(None if only is None else {only}, self.points)
-        for node, row in self.interruptible(self.hits_in(span, like, only)):
-            if node is None or row is None:
-                return Stop(INTERRUPTED)
-            here = Place(row.cycle, node)
-            if here > start and not (node == own.node and row.cycle <= own.cycle):
-                self.at = here
-                return row
-        return None
-
-    def hits_in(self, span: tuple[int, int], like: re.Pattern[bytes], only: int | None) -> Iterator[tuple[int, Traced]]:
-        """Breakpoints and stops in a span; without breakpoints no instruction is traced."""
-        if self.points:
-            yield from self.history.hits(*span, like)
-            return
-        self.history.was_stopped = self.channel.has_interrupt()
-        if not self.history.was_stopped:
-            yield from ((node, row) for node, row in self.history.stops(*span) if only in (None, node))
-
-    def hits_back_in(self, span: tuple[int, int]) -> Iterator[tuple[int, Traced]]:
-        """The same of all nodes, the last first."""
-        if self.points:
-            yield from self.history.hits_back(span[1], rows_like(None, self.points), span[0])
-            return
-        self.history.was_stopped = self.channel.has_interrupt()
-        if not self.history.was_stopped:
-            yield from reversed(list(self.history.stops(*span)))
-
-    def spans_on(self, cycle: int) -> Iterator[tuple[int, int]]:
-        """Spans that are searched one behind another, from a cycle on: epochs, where what is watched may be written in
-        them or nothing is to be traced."""
-        if self.points and not self.watches.here:
-            yield cycle, self.history.limit
-            return
-        for epoch in range(cycle // EPOCH, -(-self.history.limit // EPOCH)):
-            yield max(cycle, epoch * EPOCH), min((epoch + 1) * EPOCH, self.history.limit)
-
-    def spans_back(self, cycle: int) -> Iterator[tuple[int, int]]:
-        """The same back, from before a cycle."""
-        lowest = self.history.first
-        if self.points and not self.watches.here:
-            yield lowest, cycle
-            return
-        for epoch in range(max(cycle - 1, 0) // EPOCH, lowest // EPOCH - 1, -1):
-            yield max(epoch * EPOCH, lowest), min((epoch + 1) * EPOCH, cycle)
-
-    def next_write(self, epoch: int, own: Place, only: int | None) -> Write | None:
-        """The first write of what is watched in an epoch that is not behind this."""
-        told = self.told_write[1] if self.told_write and self.told_write[0] == own else None
-        floor = Place(told.last, told.node) if told else own
-        for write in self.watches.writes(epoch, only):
-            here = Place(write.last, write.node)
-            if here > floor or not told and here == floor:
-                return write
-        return None
-
-    def written(self, write: Write) -> Stop:
-        """Behind a write: where the node goes on."""
-        self.unseen = Place(write.last, write.node)
-        self.at = Place(write.last + 1, write.node)
-        self.told_write = (self.at, write)
-        return self.watch_stop(write)
-
-    def watch_stop(self, write: Write) -> Stop:
-        return Stop(more=f"watch:{target.DATA_SPACE + write.watched.first:x};")
-
-    def go_back(self) -> Stop:
-        """To the last breakpoint of any node before this, or before the last write of what is watched, or to the
-        beginning."""
-        self.unseen = None
-        start = self.at
-        self.watches.go()
-        for first, end in self.spans_back(min(start.cycle + 1, self.history.limit)):
-            write = self.last_write(first // EPOCH, start)
-            row = self.last_hit(start, (write.first if write else first, end))
-            if isinstance(row, Stop):
-                return row
-            if write and (row is None or Place(write.first, write.node) > self.at):
-                self.at = Place(write.first, write.node)
-                return self.watch_stop(write)
-            if row:
-                return self.hit(row)
-        return self.at_beginning()
-
-    def last_hit(self, start: Place, span: tuple[int, int]) -> Traced | Stop | None:
-        """The last breakpoint in a span before this, where it then stands; Stop where gdb asks to stop before."""
-        for node, row in self.interruptible(self.hits_back_in(span)):
-            if node is None or row is None:
-                return Stop(INTERRUPTED)
-            if Place(row.cycle, node) < start:
-                self.at = Place(row.cycle, node)
-                return row
-        return None
-
-    def last_write(self, epoch: int, start: Place) -> Write | None:
-        """The last write of what is watched in an epoch that is before this."""
-        for write in reversed(self.watches.writes(epoch)):
-            if Place(write.first, write.node) < start:
-                return write
-        return None
-
-    def interruptible(self, found: Iterator[tuple[int, Traced]]) -> Iterator[tuple[int, Traced] | tuple[None, None]]:
-        """What is found; None where gdb asks to stop before it is."""
-        self.history.wants_stop = self.channel.has_interrupt
-        try:
-            yield from found
-            if self.history.was_stopped:
-                yield None, None
-        finally:
-            self.history.wants_stop = None
-
-    def step_back(self) -> Stop:
-        """To the instruction that the node executed before; over interrupts, unless they are to be shown."""
-        self.unseen = None
-        depth, cycle = 0, self.at.cycle
-        while (row := self.history.last_row(self.at.node, cycle)) is not None:
-            cycle = row.cycle
-            if row.kind == "stop":
-                continue
-            if not self.shows_interrupts and row.kind == "instr" and row.rest == "reti":
-                depth += 1
-            elif depth and row.kind == "enter":
-                depth -= 1
-            elif self.shows_interrupts or (row.kind == "instr" and (not depth or row.address in self.points)):
-                self.at = Place(cycle, self.at.node)
-                return Stop()
-        return self.at_beginning()
-
-    def hit(self, row: Traced | None) -> Stop:
-        return self.stopped_by(row) if row and row.kind == "stop" else Stop(more="swbreak:;")
-
-    def stopped_by(self, row: Traced) -> Stop:
-        self.tell(f"node {self.at.node} stops in cycle {row.cycle:,}: {row.rest}")
-        return Stop(ILLEGAL)
-
-    def at_end(self) -> Stop:
-        self.at = Place(self.history.limit, self.at.node)
-        return Stop(more="replaylog:end;")
-
-    def at_beginning(self) -> Stop:
-        self.at = Place(self.history.first, self.at.node)
-        return Stop(more="replaylog:begin;")
+    def continuing(self) -> int:
+        """The node that moves where a packet names none."""
+        return self.going[0] if len(self.going) == 1 else self.general
 
 
 def range_of(packet: bytes) -> Range:

@@ -32,6 +32,11 @@ def registers(node: Node) -> bytes:
     return general + bytes([node["SREG"]]) + stack.to_bytes(2, "little") + counter.to_bytes(4, "little")
 
 
+def without_counter(data: bytes | bytearray) -> list[bytes]:
+    """The same but PC, one by one, of a data space in which SP and SREG stand too."""
+    return [bytes(data[at : at + 1]) for at in (*range(32), SREG)] + [bytes(data[SPL : SPH + 1])]
+
+
 # Where each register lies in that: its first byte, and how many it has.
 PLACES = [(number, 1) for number in range(33)] + [(33, 2), (35, 4)]
 
@@ -50,13 +55,6 @@ def data_space(node: Node) -> bytes:
     data[SPL], data[SPH] = node["SP"] & 0xFF, node["SP"] >> 8
     assert IO_FIRST < SRAM_FIRST <= len(data)
     return bytes(data)
-
-
-def memory(node: Node, flash: bytes, address: int, length: int) -> bytes:
-    """So many bytes from an address of avr-gdb on, fewer at the end of a memory; none where there is none."""
-    if address < DATA_SPACE:
-        return flash[address : address + length]
-    return data_space(node)[address - DATA_SPACE : address - DATA_SPACE + length]
 
 
 def memory_map(flash_bytes: int) -> bytes:

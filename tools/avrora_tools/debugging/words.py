@@ -4,11 +4,14 @@ from collections.abc import Callable, Iterator
 from typing import TYPE_CHECKING
 
 from avrora_tools import programs
-from avrora_tools.debugging.history import Happened, rows_like
+from avrora_tools.debugging.history import VECTORS, WAKING, Happened
+from avrora_tools.debugging.motion import Place
 from avrora_tools.events import event_of
 from avrora_tools.events import Heard as HeardEvent
 from avrora_tools.errors import ToolError
 from avrora_tools.files import printable
+from avrora_tools.observing.places import Kind
+from avrora_tools.observing.places import Place as Seen
 from avrora_tools.scenarios import Air, OnAir
 
 if TYPE_CHECKING:
@@ -44,7 +47,7 @@ class Words:
     """Answers what is typed behind `monitor`."""
 
     def __init__(self, session: "Session") -> None:
-        self.session = session
+        self.session, self.motion = session, session.motion
         self.bookmarks: dict[str, int] = {}
         self.all: dict[str, Callable[[list[str]], str]] = {
             "help": lambda _: HELP,
@@ -57,7 +60,7 @@ class Words:
             "console": self.console,
             "bookmark": self.bookmark,
             "interrupts": self.interrupts,
-            "watches": lambda _: "\n".join(self.session.watches.lines()) or "nothing is watched",
+            "watches": lambda _: "\n".join(self.motion.watches.lines()) or "nothing is watched",
         }
 
     def answer(self, text: str) -> str:
@@ -83,11 +86,11 @@ class Words:
             raise Refused(f"the run has {self.session.history.limit:,} cycles")
         if cycle < self.session.history.first:
             raise Refused(f"the run begins in cycle {self.session.history.first:,}")
-        self.session.at = self.session.at._replace(cycle=cycle)
+        self.motion.stand(self.motion.at._replace(cycle=cycle))
         return self.here()
 
     def here(self) -> str:
-        return f"cycle {self.session.at.cycle:,}, node {self.session.at.node}"
+        return f"cycle {self.motion.at.cycle:,}, node {self.motion.at.node}"
 
     def cycle(self, words: list[str]) -> str:
         nodes = [f"node {node}: {self.session.about(node).partition(', ')[2]}" for node in self.session.nodes()]
@@ -97,14 +100,14 @@ class Words:
         if len(words) != 1:
             lines = [f"{printable(name)}: cycle {cycle:,}" for name, cycle in self.bookmarks.items()]
             return "\n".join(lines) or "no bookmark"
-        self.bookmarks[words[0]] = self.session.at.cycle
+        self.bookmarks[words[0]] = self.motion.at.cycle
         return f"{printable(words[0])}: {self.here()}"
 
     def interrupts(self, words: list[str]) -> str:
         if words not in (["show"], ["skip"]):
             raise Refused("interrupts show, or interrupts skip")
-        self.session.shows_interrupts = words == ["show"]
-        return "steps go into interrupts" if self.session.shows_interrupts else "steps go over interrupts"
+        self.motion.shows_interrupts = words == ["show"]
+        return "steps go into interrupts" if self.motion.shows_interrupts else "steps go over interrupts"
 
     # ---- events
 
@@ -116,9 +119,10 @@ class Words:
             self.interrupt(words[1:], node, forward) if words[0] == "interrupt" else self.event(words[0], node, forward)
         )
         if found is None:
-            raise Refused(f"no {words[0]} {'behind' if forward else 'before'} cycle {self.session.at.cycle:,}")
+            raise Refused(f"no {words[0]} {'behind' if forward else 'before'} cycle {self.motion.at.cycle:,}")
         cycle, whose, text = found
-        self.session.at = self.session.at._replace(cycle=cycle, node=whose)
+        self.motion.stand(Place(cycle, whose))
+        self.session.shown = whose
         return f"{self.here()}: {text}"
 
     def of_node(self, words: list[str]) -> tuple[list[str], int | None]:
@@ -129,7 +133,7 @@ class Words:
         return words[:-2], int(words[-1])
 
     def event(self, kind: str, node: int | None, forward: bool) -> tuple[int, int, str] | None:
-        history, cycle = self.session.history, self.session.at.cycle
+        history, cycle = self.session.history, self.motion.at.cycle
         rows = history.events_from(cycle) if forward else history.events_before(cycle)
         for row in rows:
             if (node is None or row.node == node) and is_kind(row, kind):
@@ -137,20 +141,35 @@ class Words:
         return None
 
     def interrupt(self, names: list[str], node: int | None, forward: bool) -> tuple[int, int, str] | None:
-        vector = vector_of(names[0]) if names else None
-        history, cycle = self.session.history, self.session.at.cycle
-        like = rows_like(None if node is None else {node})
-        rows = history.hits(cycle + 1, history.limit, like) if forward else history.hits_back(cycle, like)
-        for whose, row in rows:
-            if row.kind == "enter" and vector in (None, int(row.rest, 16)):
-                return row.cycle, whose, f"{programs.vector_name(int(row.rest, 16))} interrupts {row.address:04X}"
-        return None
+        history, cycle = self.session.history, self.motion.at.cycle
+        words = [vector_of(names[0])] if names else VECTORS
+        nodes = self.session.nodes() if node is None else [node]
+        places = [Seen(one, Kind.AT, word) for one in nodes for word in words]
+        sightings = history.sightings
+        # An instruction at a vector begins a few cycles behind its interrupt's row.
+        pieces = (
+            sightings.pieces_on(cycle + 1, history.limit)
+            if forward
+            else sightings.pieces_back(cycle + WAKING + 1, history.first)
+        )
+        best: tuple[int, int, str] | None = None
+        for _, seen in sightings.searched(pieces, places):
+            for one in seen if forward else reversed(seen):
+                if best and abs(one.cycle - best[0]) > 2 * WAKING:
+                    return best
+                row = history.last_row(one.place.node, one.cycle)
+                if row and row.kind == "enter" and (row.cycle > cycle if forward else row.cycle < cycle):
+                    name = programs.vector_name(int(row.rest, 16))
+                    found = row.cycle, one.place.node, f"{name} interrupts {row.address:04X}"
+                    # One that wakes its node takes longer to its vector than another one.
+                    best = found if best is None else min(best, found) if forward else max(best, found)
+        return best
 
     # ---- the air
 
     def heard_before(self, node: int) -> Happened:
         """The node's last sample up to now that heard something."""
-        for row in self.session.history.events_before(self.session.at.cycle + 1):
+        for row in self.session.history.events_before(self.motion.at.cycle + 1):
             if row.node == node and row.kind == "heard" and not row.rest.startswith("0"):
                 return row
         raise Refused(f"node {node} has heard nothing yet")
@@ -171,7 +190,7 @@ class Words:
         return air
 
     def who(self, words: list[str]) -> str:
-        node = self.session.at.node
+        node = self.session.shown
         row = self.heard_before(node)
         on_air = self.sends_at(row.cycle).heard(node, row.cycle)
         lines = [f"in cycle {row.cycle:,} node {node} heard {row.rest}"]
@@ -181,7 +200,7 @@ class Words:
         return "\n".join(self.on_the_air()) or "nothing is on the air"
 
     def on_the_air(self) -> Iterator[str]:
-        cycle = self.session.at.cycle
+        cycle = self.motion.at.cycle
         air = self.sends_at(cycle)
         for node in self.session.nodes():
             for one in air.heard(node, cycle):
@@ -191,12 +210,12 @@ class Words:
     # ---- USART0
 
     def console(self, words: list[str]) -> str:
-        node = self.session.at.node
+        node = self.session.shown
         if words:
             _, chosen = self.of_node(["of", *words])
             node = node if chosen is None else chosen
         data = bytearray()
-        for row in self.session.history.events_before(self.session.at.cycle):
+        for row in self.session.history.events_before(self.motion.at.cycle):
             if row.node == node and row.kind == "serial":
                 data.append(int(row.rest, 16))
                 if len(data) == SHOWN_BYTES:

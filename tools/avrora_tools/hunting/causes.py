@@ -14,8 +14,6 @@ from avrora_tools.hunting.smaller import Scene
 from avrora_tools.programs import Program, Programs
 from avrora_tools.sweeping.simulation import ProcessTails
 
-SMALL_OF_ONE = 3  # failing trials of one look that are made small, as there may be several causes
-
 MOST_UNEVEN = 3  # pairs of lines that are told
 
 Look = tuple[str, ...]  # what can be seen of a cause before a trial is small
@@ -51,6 +49,7 @@ class Finding:
     failure: Failure
     scene: Scene | None = None
     first: Trial | None = None  # as it was drawn
+    drawn_look: Look = ()  # and what could be seen of it then
     kinds: Counter[str] = dataclasses.field(default_factory=Counter)
     texts: Counter[str] = dataclasses.field(default_factory=Counter)
     lines: tuple[str, ...] = ()

@@ -1,14 +1,19 @@
 """What a trial changes in a scenario: when a node learns what, which links are cut when, how long a byte takes."""
 import dataclasses
+import re
 from collections.abc import Iterable, Mapping, Sequence
 from typing import Any
 
 from avrora_tools.errors import BadInput
+from avrora_tools.showing import printable
 from avrora_tools.sweeping.events import DEFAULT_EVERY
 
 Document = Mapping[str, Any]
 
 FOR_GOOD = 2**40  # where a cut ends that does not
+
+# What a trial may say of itself in a file, which may be a stranger's.
+KIND, HEX = re.compile("[a-z]{1,20}"), re.compile("(?:[0-9A-Fa-f]{2})*")
 
 
 @dataclasses.dataclass(frozen=True)
@@ -119,7 +124,10 @@ def trial_of(record: Any) -> Trial:
     """A trial out of JSON. Raises BadInput where it is none."""
     try:
         changes = [change_of(dict(change)) for change in record["changes"]]
-        return Trial(str(record["kind"]), str(record["what"]), tuple(changes))
+        kind, what = str(record["kind"]), str(record["what"])
+        if not KIND.fullmatch(kind):
+            raise ValueError("no kind")
+        return Trial(kind, printable(what), tuple(changes))
     except (KeyError, TypeError, ValueError) as fault:
         raise BadInput(f"no trial of a hunt: {type(fault).__name__}: {fault}") from None
 
@@ -132,6 +140,8 @@ def change_of(record: dict[str, Any]) -> Change:
     for name, value in record.items():
         if type(value) is not (str if name == "hex" else int):
             raise ValueError(f"{name} is {value!r}")
+        if name == "hex" and not HEX.fullmatch(value):
+            raise ValueError("hex is no bytes")
     return form(**record)
 
 
@@ -168,6 +178,17 @@ def change_without_node(change: Change, node: int) -> Change | None:
         return None
     ends = {"sender": moved_up(change.sender, node), "hearer": moved_up(change.hearer, node)}
     return dataclasses.replace(change, **ends)
+
+
+def nodes_of(change: Change) -> tuple[int, ...]:
+    """The nodes that a change is of."""
+    return (change.node,) if isinstance(change, Input) else (change.sender, change.hearer)
+
+
+def alone_node(document: Document, node: int) -> Document:
+    """A scenario in which a node neither has an input nor hears anybody, and nobody hears it."""
+    links = [link for link in document.get("link", []) if node not in ends_of(link)]
+    return {**document, "link": links, "input": [it for it in document.get("input", []) if it["node"] != node]}
 
 
 def without_links(document: Document, gone: Sequence[tuple[int, int]]) -> Document:

@@ -1,9 +1,11 @@
 """A hunt: rounds in which each kind of variation has turns, more of them where it found something."""
 import random
+import time
 from collections import Counter
 from collections.abc import Callable, Iterator, Sequence
 
-from avrora_tools.hunting.causes import SMALL_OF_ONE, Finding, Lines, Look, look_of
+from avrora_tools.hunting.causes import Finding, Lines, Look, look_of
+from avrora_tools.hunting.waiting import Failing, Waiting
 from avrora_tools.hunting.changes import Document, Trial
 from avrora_tools.hunting.kinds import Facts, Kind, kinds_of
 from avrora_tools.hunting.oracles import Failure, Oracle, Reference
@@ -11,11 +13,12 @@ from avrora_tools.hunting.races import NAME as ARRIVALS
 from avrora_tools.hunting.races import Races
 from avrora_tools.hunting.said import bursts_of
 from avrora_tools.hunting.smaller import OracleOf, Scene, Smaller
-from avrora_tools.hunting.trials import Runner
-from avrora_tools.sweeping.limits import Limit
+from avrora_tools.hunting.trials import Runner, processor_seconds
+from avrora_tools.sweeping.limits import Limit, shown_time
 
 LOOKING = 0.85  # the share of the time in which new trials are made; what failed is made small in the rest too
 TURN = 12  # trials of a kind in a round
+SMALL_SHARE = 0.4  # of the runs go at most into making small what failed, but for the first of each look
 RARE = 4  # and of those kinds that seldom find something
 RARE_KINDS = ("latencies", "losses")
 MOST_FOR_FINDING = 3  # as many times a turn, where a kind found new causes of late
@@ -42,6 +45,7 @@ class Hunt:
         self.runner, self.document, self.until, self.oracle_of = runner, document, until, oracle_of
         self.has_check, self.races, self.lines, self.limit, self.seed = has_check, races, lines, limit, seed
         self.chosen = chosen
+        self.begun = time.monotonic()
         output = runner.output(document)
         self.reference = Reference(output, until, int(document["cycles"]))
         self.oracle: Oracle = oracle_of(len(document["node"]))
@@ -51,7 +55,8 @@ class Hunt:
         self.failed: Counter[str] = Counter()
         self.credit: Counter[str] = Counter()
         self.findings: list[Finding] = []
-        self.small_of: Counter[Look] = Counter()
+        self.waiting = Waiting()  # what failed and was not made small
+        self.small_runs = 0  # that this took so far
         self.failing: list[Trial] = []
         self.rounds = 0
         self.kinds: list[Kind] = []
@@ -64,20 +69,27 @@ class Hunt:
         while not self.limit.is_over(LOOKING) and (most_rounds is None or self.rounds - first_round < most_rounds):
             self.round(self.kinds, tell)
             self.rounds += 1
+        self.look_closer(1.0, tell)
         self.fold()
 
+    def look_closer(self, share: float, tell: Told) -> None:
+        """Makes more of what failed small: what looks alike may have several causes."""
+        while self.waiting.count() and not self.limit.is_over():
+            if self.small_runs >= share * self.runner.runs:
+                return
+            self.take_small(self.waiting.next(), tell)
+
     def fold(self) -> None:
-        """What was not made small is counted with a finding of the same class that needs no more than a part of it."""
-        for finding in [it for it in self.findings if it.first and it.scene and it.scene.trial == it.first]:
-            kin = [
-                other
-                for other in self.findings
-                if other is not finding and other.look[:2] == finding.look[:2] and set(other.look) < set(finding.look)
-            ]
+        """What was not made small is counted with a finding of the same look."""
+        for failing in self.waiting.rest():
+            kin = next((it for it in self.findings if it.drawn_look == failing.look), None)
             if kin:
-                kin[0].kinds += finding.kinds
-                kin[0].texts += finding.texts
-                self.findings.remove(finding)
+                kin.note(failing.trial.kind, failing.failure)
+            else:
+                scene = Scene(self.document, self.until, failing.trial)
+                found = Finding(failing.look, failing.failure, scene, failing.trial, failing.look)
+                found.note(failing.trial.kind, failing.failure)
+                self.findings.append(found)
 
     def round(self, kinds: Sequence[Kind], tell: Told) -> None:
         by_name = {kind.name: kind for kind in kinds}
@@ -90,6 +102,7 @@ class Hunt:
                 self.failed[ARRIVALS] += found.count
                 self.take_race(found, tell)
             self.tried[ARRIVALS] = self.races.runs
+        self.look_closer(SMALL_SHARE, tell)
 
     def drawn(self, kind: Kind) -> Iterator[Trial]:
         """The trials of a kind in this round, by the seed and the round alone."""
@@ -115,28 +128,28 @@ class Hunt:
             self.take(trial, failure, tell)
 
     def take(self, trial: Trial, failure: Failure, tell: Told) -> None:
-        """Puts a failing trial to its cause. The first ones of a look are made small: they may have several causes."""
-        look = look_of(trial, self.document, failure)
-        kin = [finding for finding in self.findings if finding.first and raw_look(finding, self.document) == look]
-        if self.small_of[look] < SMALL_OF_ONE and not self.limit.is_over():
-            self.small_of[look] += 1
-            found = self.small(trial, failure)
-            found.note(trial.kind, failure)
-            self.merge(found, trial.kind, tell)
-        elif kin:
-            kin[0].note(trial.kind, failure)
+        """Keeps a failing trial for a closer look; the first one of its look has that at once."""
+        failing = Failing(trial, failure, look_of(trial, self.document, failure))
+        if self.waiting.knows(failing.look) or self.limit.is_over():
+            self.waiting.put(failing)
         else:
-            found = Finding(look, failure, Scene(self.document, self.until, trial), trial)
-            found.note(trial.kind, failure)
-            self.merge(found, trial.kind, tell)
+            self.take_small(failing, tell)
 
-    def small(self, trial: Trial, failure: Failure) -> Finding:
+    def take_small(self, failing: Failing, tell: Told) -> None:
+        before = self.runner.runs
+        self.waiting.count_small(failing)
+        found = self.small(failing)
+        found.note(failing.trial.kind, failing.failure)
+        self.merge(found, failing.trial.kind, tell)
+        self.small_runs += self.runner.runs - before
+
+    def small(self, failing: Failing) -> Finding:
         """A finding with the smallest scenario that fails as this trial does."""
         smaller = Smaller(self.runner, self.oracle_of, not self.has_check, self.limit.is_over)
-        scene, wrong = smaller.smaller(Scene(self.document, self.until, trial), failure)
+        scene, wrong = smaller.smaller(Scene(self.document, self.until, failing.trial), failing.failure)
         look = look_of(scene.trial, scene.document, wrong)
         alone, uneven = self.lines.otherwise(scene)
-        return Finding(look, wrong, scene, trial, lines=alone, uneven=uneven)
+        return Finding(look, wrong, scene, failing.trial, failing.look, lines=alone, uneven=uneven)
 
     def merge(self, found: Finding, kind: str, tell: Told) -> None:
         """Findings of one look whose failing runs execute the same lines are one."""
@@ -149,7 +162,7 @@ class Hunt:
                 return
         self.findings.append(found)
         self.credit[kind] += 2
-        tell(f"found after {self.runner.runs:,} runs, by {kind}: {found.failure.text}")
+        self.tell_found(tell, kind, found.failure.text)
 
     def take_race(self, found: Finding, tell: Told) -> None:
         for finding in self.findings:
@@ -164,10 +177,9 @@ class Hunt:
             else:
                 found.scene = None
         self.findings.append(found)
+        self.tell_found(tell, ARRIVALS, found.places[0])
+
+    def tell_found(self, tell: Told, kind: str, text: str) -> None:
         runs = self.runner.runs + (self.races.runs if self.races else 0)
-        tell(f"found after {runs:,} runs, by {ARRIVALS}: {found.places[0]}")
+        tell(f"found after {runs:,} runs ({shown_time(processor_seconds())} of processors), by {kind}: {text}")
 
-
-def raw_look(finding: Finding, document: Document) -> Look:
-    assert finding.first
-    return look_of(finding.first, document, finding.failure)

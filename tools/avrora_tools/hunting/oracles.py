@@ -3,13 +3,16 @@
 Without a check of the user each node must write what it writes in the run that is not varied, in any order, sooner or
 later: what is due by `until` must have come by the scenario's end, and nothing may come by `until` that is not due by
 then. It must not stop, and where it sent to the end it must not fall silent."""
+import functools
 import re
 from collections import Counter
 from collections.abc import Collection
 from dataclasses import dataclass
 
 from avrora_tools.hunting.changes import Trial
-from avrora_tools.hunting.said import clashes_at, last_sends
+from avrora_tools.hunting.said import clashes_at, last_sends, without_samples
+from avrora_tools.hunting.watching import breach_in
+from avrora_tools.sweeping.always import Breach
 from avrora_tools.sweeping.rows import stops, written, written_before
 from avrora_tools.sweeping.verdicts import CaseCheck, PredicateCheck, listed
 
@@ -27,10 +30,11 @@ class Failure:
     node: int | None
     text: str
     has_clash: bool = False
+    condition: str = ""  # of a condition that does not hold: its words, and who broke it
 
     def cause(self) -> tuple[str, str]:
         """What failures of one cause have in common, as far as it can be seen."""
-        return self.class_, "with a clash there" if self.has_clash else ""
+        return self.class_, self.condition or ("with a clash there" if self.has_clash else "")
 
 
 @dataclass(frozen=True)
@@ -41,8 +45,23 @@ class Reference:
     until: int
     cycles: int
 
-    def texts(self, end: int | None) -> dict[int, bytes]:
-        return written_before((self.output,), end)
+    @functools.cached_property
+    def texts(self) -> dict[int, bytes]:
+        """What each node writes in all of the run."""
+        return written((self.output,))
+
+    @functools.cached_property
+    def texts_due(self) -> dict[int, bytes]:
+        """And by the deadline."""
+        return written_before((self.output,), self.until)
+
+    @functools.cached_property
+    def stops(self) -> dict[int, str]:
+        return stops((self.output,))
+
+    @functools.cached_property
+    def last_sends(self) -> dict[int, int]:
+        return last_sends(self.output)
 
 
 def parts_of(text: bytes, is_cut: bool) -> Counter[bytes]:
@@ -54,18 +73,27 @@ def parts_of(text: bytes, is_cut: bool) -> Counter[bytes]:
 
 
 class Oracle:
-    """Judges runs beside the one that is not varied, or by a check of the user."""
+    """Judges runs beside the one that is not varied, or by what the user says: a check, or conditions."""
 
-    def __init__(self, nodes: Collection[int], user: CaseCheck | PredicateCheck | None = None) -> None:
-        self.nodes, self.user = nodes, user
+    def __init__(
+        self, nodes: Collection[int], user: CaseCheck | PredicateCheck | None = None, has_conditions: bool = False
+    ) -> None:
+        self.nodes, self.user, self.has_conditions = nodes, user, has_conditions
+
+    def rows(self, output: bytes) -> bytes:
+        """The rows of a run that this looks at; a check of the user may look at all."""
+        return output if self.user else without_samples(output)
 
     def failure(self, reference: Reference, trial: Trial | None, output: bytes) -> Failure | None:
         """What is wrong with a run; of what is not varied there is no trial."""
-        stopped, due = stops((output,)), stops((reference.output,))
+        stopped = stops((output,))
         for node in sorted(stopped):
-            if stopped[node] != due.get(node):
+            if stopped[node] != reference.stops.get(node):
                 text = f"node {node} stopped by {stopped[node]}, and not so where nothing varies"
                 return Failure(STOPPED, node, text)
+        if self.has_conditions:
+            breach = breach_in(output)
+            return failure_of(breach) if breach else None
         if self.user:
             wrong = self.user.failure((), output)
             return Failure(UNMET, None, wrong) if wrong else None
@@ -73,7 +101,7 @@ class Oracle:
 
     def written_otherwise(self, reference: Reference, trial: Trial | None, output: bytes) -> Failure | None:
         got, got_in_time = written((output,)), written_before((output,), reference.until)
-        due, good = reference.texts(reference.until), reference.texts(None)
+        due, good = reference.texts_due, reference.texts
         for node in sorted(set(self.nodes) & {*got, *good}):
             more = parts_of(got_in_time.get(node, b""), True) - parts_of(good.get(node, b""), False)
             if more:
@@ -91,13 +119,18 @@ class Oracle:
         silence whom it joins."""
         concerned = {node for cut in (trial.cuts() if trial else []) for node in (cut.sender, cut.hearer)}
         begin = reference.cycles - reference.cycles // QUIET_SHARE
-        before, now = last_sends(reference.output), last_sends(output)
+        before, now = reference.last_sends, last_sends(output)
         for node in sorted(set(self.nodes) & before.keys()):
             is_excused = trial is not None and trial.lasts() and node in concerned
             if before[node] >= begin > now.get(node, 0) and not is_excused and is_steady(reference, node):
                 when = f"in cycle {now[node]:,}" if node in now else "never"
                 return Failure(SILENT, node, f"node {node} sends to the end where nothing varies, and here last {when}")
         return None
+
+
+def failure_of(breach: Breach) -> Failure:
+    who = f" by {breach.writer}" if breach.writer else ""
+    return Failure(UNMET, breach.node, str(breach), condition=f"`{breach.condition}` broken{who}")
 
 
 def is_steady(reference: Reference, node: int) -> bool:

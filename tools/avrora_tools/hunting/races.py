@@ -7,13 +7,14 @@ from collections.abc import Callable, Iterator, Mapping, Sequence
 
 from avrora_tools.errors import BadInput, BadWords
 from avrora_tools.hunting.causes import Finding
-from avrora_tools.hunting.changes import Document, Input, Trial, inputs_of
+from avrora_tools.hunting.changes import Document, Trial, inputs_of
 from avrora_tools.hunting.oracles import Failure, Oracle, Reference
 from avrora_tools.hunting.smaller import Scene
+from avrora_tools.hunting.watching import Conditions
 from avrora_tools.occurrences import Executions
 from avrora_tools.programs import Program, Programs
 from avrora_tools.sweeping import findings as grouping
-from avrora_tools.sweeping.events import InputByte, Move, Moved, MovedScenario, Script, Span, moved_scenario, script_of
+from avrora_tools.sweeping.events import EVERY, InputByte, Move, Moved, MovedScenario, Script, Span, moved_scenario, script_of
 from avrora_tools.sweeping.limits import Limit
 from avrora_tools.sweeping.plans import spread
 from avrora_tools.sweeping.sharing import Sharing, objects_of
@@ -31,6 +32,7 @@ BEFORE, BEHIND = 12, 12  # cycles that are swept about a visit
 WIDE = 3_000  # of a drawn span
 PER_PLACE = 3  # classes of each interrupted instruction that are run of a drawn span
 MOST_VISITS = 40  # of one byte
+VISIT_SHARE = 0.1  # of the time of a hunt that one visit may take
 
 
 @dataclasses.dataclass(frozen=True)
@@ -50,13 +52,15 @@ class OracleCheck:
 
     oracle: Oracle
     reference: Reference
-    head: bytes
+    tails: ProcessTails
+    conditions: Conditions | None
 
-    def judged(self, output: bytes) -> Failure | None:
-        return self.oracle.failure(self.reference, None, self.head + output)
+    def judged(self, move: Move, output: bytes) -> Failure | None:
+        row = self.conditions.row(self.tails, move) if self.conditions else b""
+        return self.oracle.failure(self.reference, None, self.oracle.rows(self.tails.head + output) + row)
 
     def failure(self, move: Move, output: bytes) -> str | None:
-        found = self.judged(output)
+        found = self.judged(move, output)
         return found.text if found else None
 
 
@@ -72,8 +76,10 @@ class Races:
         jobs: int,
         limit: Limit,
         place_of: Callable[[int], str],
+        conditions: Conditions | None = None,
     ) -> None:
         """`place_of` names the file of a race, by its number."""
+        self.conditions = conditions
         self.place_of = place_of
         self.written = 0
         self.simulator, self.document, self.until, self.jobs, self.limit = simulator, document, until, jobs, limit
@@ -89,13 +95,13 @@ class Races:
         self.is_wide = False
 
     def bytes_that_move(self) -> Iterator[InputByte]:
-        """Bytes behind the first of each node whose program is known; those of different images in turns. The last byte
-        of a node comes first: no other behind it hides what it does."""
+        """Bytes of each node whose program is known; those of different images in turns. The last byte of a node comes
+        first: no other behind it hides what it does. Its first one, which may start its program, is the last."""
         by_image: dict[str, list[InputByte]] = {}
         for it in inputs_of(self.document):
             if self.programs and self.programs.of(it.node):
                 image = self.document["node"][it.node]["image"]
-                by_image.setdefault(image, []).extend(InputByte(it.node, i) for i in range(1, len(it.hex) // 2))
+                by_image.setdefault(image, []).extend(InputByte(it.node, i) for i in range(len(it.hex) // 2))
         counts = {it.node: len(it.hex) // 2 for it in inputs_of(self.document)}
         for events in by_image.values():
             events.sort(key=lambda event: event.index - counts[event.node])
@@ -137,7 +143,7 @@ class Races:
         is_last = script.index + 1 == len(script.bytes_)
         early = self.until - (int(self.document["cycles"]) - self.until)
         behind = max(early, script.nominal(script.index) + 1) if is_last else script.nominal(script.index + 1)
-        return script.nominal(script.index - 1) + 1, min(behind, self.until) - 1
+        return script.nominal(script.index - 1) + 1 if script.index else 1, min(behind, self.until) - 1
 
     def next_visit(self) -> Visit | None:
         """The visit to be swept next: first those of code that was not swept yet."""
@@ -190,8 +196,8 @@ class Races:
         program = self.program(visit.event.node)
         sharing = self.sharing(visit.event.node, program)
         with ProcessTails(self.simulator, scenario, self.jobs) as tails:
-            check = OracleCheck(oracle, reference, tails.head)
-            sweep = Sweep(tails, scenario, check, program, sharing, self.limit)
+            check = OracleCheck(oracle, reference, tails, self.conditions)
+            sweep = Sweep(tails, scenario, check, program, sharing, self.limit.part(VISIT_SHARE))
             for _ in sweep.run(options):
                 pass
             self.runs += sweep.results.runs
@@ -201,7 +207,8 @@ class Races:
         places = grouping.lines_of(one.spots)
         used = sweep.thing_in_use(one)
         ends, parting = sweep.ends(one), sweep.parting(one)
-        failure = check.judged(sweep.tails.output(one.first().move())) or Failure("lost", None, "")
+        earliest = one.first().move()
+        failure = check.judged(earliest, sweep.tails.output(earliest)) or Failure("lost", None, "")
         told = [f"{' and '.join(places)}" + (f"; {used}" if used else ""), *filter(None, (ends, parting))]
         event = sweep.scenario.moved[-1].event
         assert isinstance(event, InputByte)
@@ -216,13 +223,15 @@ class Races:
         return result
 
     def scene(self, event: InputByte, value: int) -> Scene | None:
-        """A scenario that says the arrival, where one can: that of a node's second byte, with none behind."""
+        """A scenario that says the arrival, where one can: that of a node's first byte, or its second, with none
+        behind."""
         it = next(it for it in inputs_of(self.document) if it.node == event.node)
         apart = value - it.at
-        if event.index != 1 or not 1 <= apart < 65_536:
+        if event.index > 1 or event.index == 1 and apart not in EVERY:
             return None
-        kept = dataclasses.replace(it, hex=it.hex[:4])
-        trial = Trial(NAME, f"byte 1 of node {it.node} arrives at {value:,}", (Input(it.node, it.at, apart, kept.hex),))
+        kept = dataclasses.replace(it, hex=it.hex[: 2 * event.index + 2])
+        moved = dataclasses.replace(kept, every=apart) if event.index else dataclasses.replace(kept, at=value)
+        trial = Trial(NAME, f"byte {event.index} of node {it.node} arrives at {value:,}", (moved,))
         return Scene(kept.applied(self.document), self.until, trial)
 
 

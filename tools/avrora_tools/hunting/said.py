@@ -4,6 +4,7 @@ from collections import defaultdict
 from dataclasses import dataclass
 
 SENT = re.compile(rb"^(\d+) (\d+) sent ([0-9A-F]{2})$", re.MULTILINE)
+NO_CLASH = re.compile(rb"^\d+ \d+ heard [01] [^\n]*\n", re.MULTILINE)
 CLASH = re.compile(rb"^\d+ (\d+) heard 2 ", re.MULTILINE)
 
 
@@ -32,6 +33,11 @@ def bursts_of(output: bytes, byte_time: int) -> list[Burst]:
                 found.append(Burst(node, part[0][0], part[-1][0], bytes(byte for _, byte in part)))
                 begun = place
     return sorted(found, key=lambda burst: (burst.first, burst.node))
+
+
+def without_samples(output: bytes) -> bytes:
+    """The rows of a run but for samples of the air that met no clash, which are most of them."""
+    return NO_CLASH.sub(b"", output)
 
 
 def clashes_at(output: bytes, node: int) -> int:

@@ -3,7 +3,7 @@ and inputs, a shorter run. The scenario without the changes must be right each t
 import dataclasses
 import itertools
 from collections.abc import Callable, Iterator, Sequence
-from typing import TypeGuard
+from typing import TypeGuard, TypeVar
 
 from avrora_tools.hunting.changes import (
     Change,
@@ -11,17 +11,21 @@ from avrora_tools.hunting.changes import (
     Document,
     Input,
     Trial,
+    alone_node,
     change_without_node,
     ends_of,
     inputs_of,
+    nodes_of,
     without_links,
     without_node,
 )
 from avrora_tools.hunting.oracles import Failure, Oracle, Reference
 from avrora_tools.hunting.trials import Runner
 
+Thing = TypeVar("Thing")
+
 MOST_RUNS = 160  # for one scenario
-AT_A_TIME = 2  # scenes that are tried at a time, of two runs each
+AT_A_TIME = 2  # scenes that are tried at a time, of one run or two each
 HALVINGS = 4  # of a cut, and of the run's length
 LEAST_CYCLES = 20_000
 
@@ -38,9 +42,10 @@ class Scene:
         return self.trial.applied(self.document)
 
     def size(self) -> tuple[int, int, int, int]:
-        """Nodes, links, changes, cycles."""
+        """Nodes that have a link or an input, links, changes, cycles."""
         links = self.document.get("link", [])
-        return len(self.document["node"]), len(links), len(self.trial.changes), int(self.document["cycles"])
+        nodes = {end for link in links for end in ends_of(link)} | {it.node for it in inputs_of(self.document)}
+        return len(nodes), len(links), len(self.trial.changes), int(self.document["cycles"])
 
 
 OracleOf = Callable[[int], Oracle]  # for a number of nodes
@@ -53,27 +58,38 @@ class Smaller:
         """`may_renumber`: whether nodes may go; a check of the user knows nodes by their numbers."""
         self.runner, self.oracle_of, self.may_renumber, self.is_over = runner, oracle_of, may_renumber, is_over
         self.left = MOST_RUNS
+        self.right: dict[str, Reference | None] = {}  # by scenario; none where it is wrong without any change
 
     def failure(self, scene: Scene) -> Failure | None:
         return self.failures([scene])[0]
 
     def failures(self, scenes: Sequence[Scene]) -> list[Failure | None]:
         """How scenes fail, where they are right without their changes."""
-        self.left -= 2 * len(scenes)
-        outputs = list(self.runner.outputs([it for scene in scenes for it in (scene.document, scene.failing())]))
-        outputs += [b""] * (2 * len(scenes) - len(outputs))
-        return [self.judged(scene, *outputs[2 * i : 2 * i + 2]) for i, scene in enumerate(scenes)]
+        unknown = {key(it): it for it in scenes if key(it) not in self.right}
+        documents = [it.document for it in unknown.values()] + [it.failing() for it in scenes]
+        self.left -= len(documents)
+        outputs = list(self.runner.outputs(documents))
+        outputs += [b""] * (len(documents) - len(outputs))
+        for (name, scene), output in zip(unknown.items(), outputs):
+            self.right[name] = self.reference(scene, output)
+        failing = outputs[len(unknown) :]
+        return [self.judged(scene, self.right[key(scene)], output) for scene, output in zip(scenes, failing)]
 
-    def judged(self, scene: Scene, right: bytes, failing: bytes) -> Failure | None:
+    def reference(self, scene: Scene, right: bytes) -> Reference | None:
+        """The run without the changes, where it is right."""
         reference = Reference(right, scene.until, int(scene.document["cycles"]))
         oracle = self.oracle_of(len(scene.document["node"]))
-        if not right or not failing or oracle.failure(reference, None, right):
+        return None if not right or oracle.failure(reference, None, right) else reference
+
+    def judged(self, scene: Scene, reference: Reference | None, failing: bytes) -> Failure | None:
+        if reference is None or not failing:
             return None
-        return oracle.failure(reference, scene.trial, failing)
+        return self.oracle_of(len(scene.document["node"])).failure(reference, scene.trial, failing)
 
     def smaller(self, scene: Scene, failure: Failure) -> tuple[Scene, Failure]:
         """The smallest that was found, and how it fails."""
-        for step in (fewer_changes, shorter_cuts, self.fewer_nodes, fewer_links, fewer_bytes, shorter, fewer_changes):
+        steps = (fewer_changes, shorter_cuts, shorter, self.fewer_nodes, fewer_links, fewer_bytes, shorter)
+        for step in (*steps, fewer_changes):
             scene, failure = self.stepped(scene, failure, step)
         return scene, failure
 
@@ -98,14 +114,42 @@ class Smaller:
 
     def fewer_nodes(self, scene: Scene) -> Iterator[Scene]:
         if not self.may_renumber:
+            yield from fewer_with_part(scene)
             return
         count = len(scene.document["node"])
-        for node in reversed(range(count if count > 1 else 0)):
-            changes = [change_without_node(change, node) for change in scene.trial.changes]
-            kept = [change for change in changes if change is not None]
-            if kept:
-                trial = scene.trial.with_changes(kept)
-                yield dataclasses.replace(scene, document=without_node(scene.document, node), trial=trial)
+        for gone in chunks(range(count)):
+            document, changes = scene.document, scene.trial.changes
+            for node in sorted(gone, reverse=True):
+                document = without_node(document, node)
+                changes = tuple(it for it in (change_without_node(it, node) for it in changes) if it is not None)
+            if changes:
+                yield dataclasses.replace(scene, document=document, trial=scene.trial.with_changes(changes))
+
+
+def key(scene: Scene) -> str:
+    """What the run without changes depends on."""
+    return repr((scene.document, scene.until))
+
+
+def chunks(things: Sequence[Thing]) -> Iterator[Sequence[Thing]]:
+    """Parts that may go together: halves first, from the last things on, then ever smaller ones."""
+    size = len(things) // 2
+    while size >= 1:
+        for end in range(len(things), 0, -size):
+            yield things[max(0, end - size) : end]
+        size //= 2
+
+
+def fewer_with_part(scene: Scene) -> Iterator[Scene]:
+    """Without the links and the input of a node, which stays and has its number."""
+    busy = {it.node for it in inputs_of(scene.document)}
+    for link in scene.document.get("link", []):
+        busy.update(ends_of(link))
+    for node in sorted(busy, reverse=True):
+        kept = [it for it in scene.trial.changes if node not in nodes_of(it)]
+        if kept:
+            document = alone_node(scene.document, node)
+            yield dataclasses.replace(scene, document=document, trial=scene.trial.with_changes(kept))
 
 
 def is_alike(found: Failure | None, failure: Failure) -> TypeGuard[Failure]:
@@ -144,12 +188,10 @@ def fewer_links(scene: Scene) -> Iterator[Scene]:
     links = [ends_of(link) for link in scene.document.get("link", [])]
     needed = {(it.sender, it.hearer) for it in scene.trial.changes if not isinstance(it, Input)}
     spare = [link for link in links if link not in needed]
-    size = max(1, len(spare) // 2)
-    while spare and size >= 1:
-        for begin in range(0, len(spare), size):
-            gone = spare[begin : begin + size]
-            yield dataclasses.replace(scene, document=without_links(scene.document, gone))
-        size //= 2
+    if len(spare) == 1:
+        yield dataclasses.replace(scene, document=without_links(scene.document, spare))
+    for gone in chunks(spare):
+        yield dataclasses.replace(scene, document=without_links(scene.document, gone))
 
 
 def fewer_bytes(scene: Scene) -> Iterator[Scene]:

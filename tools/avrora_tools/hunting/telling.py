@@ -1,6 +1,6 @@
 """What a hunt tells, and the scenarios that it writes."""
 import os
-import shlex
+import time
 from collections.abc import Iterable
 
 from avrora_tools import files
@@ -13,6 +13,7 @@ from avrora_tools.hunting.races import HANDLER
 from avrora_tools.hunting.races import NAME as ARRIVALS
 from avrora_tools.hunting.smaller import Scene
 from avrora_tools.hunting.trials import processor_seconds
+from avrora_tools.showing import shell_folder, shell_line, shell_word
 from avrora_tools.sweeping.limits import shown_time
 from avrora_tools.sweeping.simulation import scenario_text
 
@@ -32,9 +33,9 @@ def print_hunt(hunt: Hunt, corpus: Corpus, scenario: str, elf: Iterable[str]) ->
 
 def print_tried(hunt: Hunt) -> None:
     races = hunt.races.runs if hunt.races else 0
-    seconds = hunt.limit.spent()
     print(
-        f"{hunt.runner.runs + races:,} runs in {shown_time(seconds)} ({processor_seconds():,.0f} processor seconds), "
+        f"{hunt.runner.runs + races:,} runs in {shown_time(time.monotonic() - hunt.begun)} "
+        f"({processor_seconds():,.0f} processor seconds), "
         f"{hunt.rounds} rounds of seed {hunt.seed}"
     )
     if hunt.limit.signal is not None:
@@ -89,7 +90,7 @@ def commands(finding: Finding, scenario: str, elf: list[str]) -> list[str]:
     """The lines of a shell that open a finding."""
     words = [word for it in elf for word in ("-e", it)]
     if finding.command:
-        swept = f"avrora-tools sweep {shlex.quote(scenario)} {finding.command} {shlex.join(words)}"
+        swept = f"avrora-tools sweep {shell_word(scenario)} {finding.command} {shell_line(words)}"
         found = [swept.rstrip(), finding.opened]
         if not finding.scene:
             return found
@@ -99,9 +100,9 @@ def commands(finding: Finding, scenario: str, elf: list[str]) -> list[str]:
         return found
     folder, name = os.path.split(finding.path)
     at = first_cycle(finding.scene)
-    go = f"cd {shlex.quote(folder)} && "
+    go = f"cd {shell_folder(folder)} && "
     right = right_name(name)
-    found.append(f"(cd {shlex.quote(folder)} && avrora run {name} >{name}.trace && avrora run {right} >{right}.trace)")
+    found.append(f"({go}avrora run {name} >{name}.trace && avrora run {right} >{right}.trace)")
     found.append(f"({go}avrora-tools timeline -s {name} -o {name}.html {name}.trace)")
     found.append(f"({go}avrora-tools diff {right}.trace {name}.trace)")
     found.append(f"({go}avrora-tools gdb --port 4242 --at {at} {name})")

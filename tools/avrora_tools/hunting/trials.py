@@ -1,7 +1,7 @@
 """Makes the runs of trials: on processes of this machine, or on the workers of a cluster, as a sweep does."""
 import dataclasses
 import resource
-from collections.abc import Iterator, Sequence
+from collections.abc import Callable, Iterator, Sequence
 
 from avrora_tools.hunting.changes import Document, Trial
 from avrora_tools.sweeping.events import LinkLatency, Move, Moved, MovedScenario, Span
@@ -29,8 +29,9 @@ def scenes(document: Document) -> Scenes:
 class Runner:
     """Runs scenarios, some at a time; counts them."""
 
-    def __init__(self, tails: ProcessTails, known: Scenes) -> None:
-        self.tails, self.scenes = tails, known
+    def __init__(self, tails: ProcessTails, known: Scenes, rows: Callable[[bytes], bytes]) -> None:
+        """`rows` chooses those of a run that are looked at."""
+        self.tails, self.scenes, self.rows = tails, known, rows
         self.runs = 0
 
     def outputs(self, documents: Sequence[Document]) -> Iterator[bytes]:
@@ -39,12 +40,12 @@ class Runner:
         jobs: list[tuple[Move, tuple[int, int]]] = [((number,), NO_WINDOW) for number in range(len(documents))]
         for output in self.tails.outputs(jobs):
             self.runs += 1
-            yield output
+            yield self.rows(output)
 
     def output(self, document: Document) -> bytes:
         self.runs += 1
         self.scenes.documents[:] = [document]
-        return self.tails.output((0,))
+        return self.rows(self.tails.output((0,)))
 
     def tried(self, document: Document, trials: Sequence[Trial]) -> Iterator[tuple[Trial, bytes]]:
         """The rows of each trial."""

@@ -8,11 +8,13 @@ from avrora_tools import files, showing
 from avrora_tools.cases import Case, Condition as Stated
 from avrora_tools.debugging.history import history
 from avrora_tools.errors import BadInput
+from avrora_tools.expectations import opened
 from avrora_tools.fields import EVERY, Span
 from avrora_tools.observing.conditions import Reader
 from avrora_tools.observing.running import Network, Run
 from avrora_tools.observing.searching import Broken, Watched, turns
 from avrora_tools.observing.writers import Writers
+from avrora_tools.opening import Where
 from avrora_tools.programs import Programs
 from avrora_tools.scenarios import Scenario
 
@@ -104,6 +106,10 @@ class Observer:
             writers = Writers(past)
             for it in unmet:
                 lines = [f"{self.name}, line {it.stated.line}: {self.why(it)}", *self.writer(it, writers)]
+                if it.decided:
+                    moment = it.decided[1].moment
+                    where = Where(moment.cycle, moment.node) if moment else Where(it.decided[0], it.stated.node)
+                    lines += opened(self.case, where)
                 yield showing.printable_lines("\n".join(lines))
 
     def why(self, it: Follower) -> str:

@@ -4,6 +4,8 @@
 // What is drawn of a node, each kind with how many numbers an event of it has, of which the first is its cycle.
 const FIELDS = { sent: 2, heard: 4, clash: 3, quiet: 1, serial: 2, lines: 3, asleep: 2, enter: 2, stop: 2 };
 
+const MOST_TOLD = 8;  // variables of a node that are told at the pointer
+
 // The place of the first event of a cycle of at least `cycle`.
 function place(events, cycle) {
   let low = 0, high = events.length;
@@ -29,13 +31,28 @@ function unpacked(flat, kind) {
   return events;
 }
 
+// A track of the data as a list of changes: its cycle, and the place of the value from it on.
+function unpackedTrack(track, number) {
+  const changes = [];
+  let cycle = 0;
+  for (let i = 0; i < track.changes.length; i += 2) changes.push([cycle += track.changes[i], track.changes[i + 1]]);
+  const numbers = track.numbers || null, finite = (numbers || []).filter(value => value !== null);
+  return {
+    name: track.name, look: track.look, number, changes, numbers, texts: track.texts || numbers.map(String),
+    least: finite.reduce((a, b) => Math.min(a, b), Infinity), most: finite.reduce((a, b) => Math.max(a, b), -Infinity),
+  };
+}
+
 const grouped = number => Math.round(number).toLocaleString("en");
 const inHex = byte => byte.toString(16).toUpperCase().padStart(2, "0");
 const isVisible = byte => byte > 0x20 && byte < 0x7f;
 const inWords = byte => inHex(byte) + (isVisible(byte) ? " '" + String.fromCharCode(byte) + "'" : "");
 
 function makeEvents(data) {
-  for (const node of data.nodes) for (const kind in FIELDS) node[kind] = unpacked(node[kind], kind);
+  for (const node of data.nodes) {
+    for (const kind in FIELDS) node[kind] = unpacked(node[kind], kind);
+    node.tracks = (node.tracks || []).map(unpackedTrack);
+  }
   const byNumber = new Map(data.nodes.map((node, row) => [node.node, { node, row }]));
   const latencies = new Map(data.links.map(([from, to, latency]) => [from * 64 + to, latency]));
   // All clashes in order: cycle and hearer.
@@ -80,8 +97,18 @@ function makeEvents(data) {
 
   const title = node => "node " + node.name + (node.state ? ", at the end " + node.state : "");
 
+  // The value that a track has in a cycle, and since when.
+  function valueAt(track, cycle) {
+    const at = place(track.changes, cycle + 1) - 1;
+    return at < 0 ? null : { text: track.texts[track.changes[at][1]], since: track.changes[at][0] };
+  }
+
   // What an event is, in words.
-  function told(node, kind, event) {
+  function told(node, kind, event, track) {
+    if (kind === "track") {
+      const before = valueAt(track, event[0] - 1);
+      return track.name + " = " + track.texts[event[1]] + (before ? ", before " + before.text : "");
+    }
     if (kind === "sent") return "sent " + inWords(event[1]);
     if (kind === "heard") return "heard " + inWords(event[1]) + (event[3] >= 0 ? " of node " + event[3] : "") +
       ", age " + event[2];
@@ -114,5 +141,16 @@ function makeEvents(data) {
     return lines;
   }
 
-  return { byNumber, clashes, hearersOf, sendersOf, waysOf, title, told, around };
+  // The variables of a node in a cycle: the one that is pointed at, or the first ones.
+  function values(node, cycle, only) {
+    const tracks = only ? [only] : node.tracks.slice(0, MOST_TOLD), lines = [];
+    for (const track of tracks) {
+      const value = valueAt(track, cycle);
+      if (value) lines.push(track.name + " = " + value.text + " since " + grouped(value.since));
+    }
+    if (!only && node.tracks.length > MOST_TOLD) lines.push("and " + (node.tracks.length - MOST_TOLD) + " more");
+    return lines;
+  }
+
+  return { byNumber, clashes, hearersOf, sendersOf, waysOf, title, told, around, values };
 }

@@ -5,7 +5,7 @@ import hashlib
 import os
 import subprocess
 import tempfile
-from collections.abc import Iterator
+from collections.abc import Iterator, Sequence
 from dataclasses import dataclass, field
 from typing import Any, NamedTuple
 
@@ -18,6 +18,8 @@ from avrora_tools.exports import coverage
 from avrora_tools.exports.walking import Functions, NodeCosts, StackReader
 from avrora_tools.fates import Reader
 from avrora_tools.listening import Radio, Selection
+from avrora_tools.observing import tracks
+from avrora_tools.observing.running import Network, Run
 from avrora_tools.profiles import Spent
 from avrora_tools.reporting import resting
 from avrora_tools.reporting.case_sections import Checked
@@ -61,6 +63,7 @@ class Gathered:
     radios: list[Radio] = field(default_factory=list)
     accounts: list[Account] = field(default_factory=list)
     cases: list[Checked] = field(default_factory=list)
+    watched: Sequence[str] = ()  # the words of what is watched
 
 
 @dataclass(frozen=True)
@@ -72,6 +75,7 @@ class Wishes:
     always_listening: bool = False
     stacks: Window | None = None
     sleep: bool = True
+    watch: Sequence[str] = ()  # variables and registers, or patterns of them
 
 
 MOST_VERSION = 200  # characters of what the simulator says of itself
@@ -120,9 +124,13 @@ def gathered(path: str, simulator: Simulator, all_programs: programs.Programs, w
             rows=trace.count,
             spent=dict(enumerate(spent)),
             programs=all_programs,
+            watched=wishes.watch,
         )
         if wishes.sleep:
             resting.add_to(drawing, simulator, os.path.abspath(path), scenario, spent)
+        if wishes.watch:
+            run = Run.of(simulator.program, path, scenario.cycles)
+            tracks.add_to(drawing, run, Network(scenario, all_programs), wishes.watch)
         if all_programs.all:
             add_stacks(found, simulator, trace_path, wishes.stacks)
     if wishes.currents:

@@ -1,11 +1,13 @@
 "use strict";
-// The lanes of a timeline: a row a node, with what it sent, wrote and heard, and a strip above of the whole run.
+// The lanes of a timeline: a row a node, with what it sent, wrote and heard, below it one for each variable that is
+// watched, and a strip above of the whole run.
 
-const TOP = 24, RIGHT = 10, LEAST_ROW = 14, MOST_ROW = 190, ROOMY = 42, DETAIL = 130, STRIP = 38;
+const TOP = 24, RIGHT = 10, LEAST_ROW = 14, MOST_ROW = 190, ROOMY = 42, DETAIL = 130, STRIP = 38,
+  TRACK = 19, NAMED = 11, MOST_NAME = 210, LOWEST = 0.12;
 // Of a roomy lane: where each part begins, and how high it is.
 const BAND = { sent: [0.06, 0.34], serial: [0.40, 0.26], heard: [0.70, 0.28] };
 const PAINTS = ["paper", "panel", "ink", "faint", "rule", "focus", "sent", "heard", "clash", "quiet", "serial",
-  "asleep", "enter", "window", "closed", "stopped", "stop"];
+  "asleep", "enter", "track", "window", "closed", "stopped", "stop"];
 
 // Paints the state `it` of a timeline on its two canvases; `shown` tells which kinds of events are, `isPainted` is
 // called behind each painting.
@@ -14,13 +16,19 @@ function makeLanes(it, root, events, shown, isPainted) {
   const sky = document.getElementById("sky"), strip = document.getElementById("strip");
   const pen = sky.getContext("2d"), thin = strip.getContext("2d");
   const fills = document.body.classList.contains("alone"), colours = {};
-  let width = 0, height = 0, left = 96;
+  let width = 0, height = 0, left = 96, tops = [], bottom = TOP, trackHigh = TRACK;
 
   const scale = () => (width - left - RIGHT) / (it.to - it.from);
   const x = cycle => left + (cycle - it.from) * scale();
   const cycleAt = px => it.from + (px - left) / scale();
-  const y = row => TOP + row * it.step;
-  const rowAt = py => Math.floor((py - TOP) / it.step);
+  const y = row => tops[row];
+  const tracksOf = node => shown("track") ? node.tracks : [];
+  // The row at a height, and which of its tracks; -1 for none.
+  function rowAt(py) {
+    const row = py < TOP || py >= bottom ? -1 : tops.findLastIndex(top => top <= py);
+    const track = row < 0 ? -1 : Math.floor((py - tops[row] - it.step) / trackHigh);
+    return { row, track: track < tracksOf(data.nodes[row] || { tracks: [] }).length ? track : -1 };
+  }
 
   function readColours() {
     const style = getComputedStyle(document.documentElement);
@@ -36,11 +44,17 @@ function makeLanes(it, root, events, shown, isPainted) {
   function size() {
     readColours();
     width = root.clientWidth;
-    left = width < 640 ? 30 : Math.min(170, 30 + 7 * Math.max(...data.nodes.map(node => node.name.length)));
+    const longest = node => Math.max(node.name.length, ...tracksOf(node).map(track => track.name.length));
+    left = width < 640 ? 30 : Math.min(MOST_NAME, 30 + 7 * Math.max(...data.nodes.map(longest)));
+    trackHigh = width < 640 ? TRACK + NAMED : TRACK;  // where names have no room beside the rows they stand in them
+    const count = data.nodes.reduce((sum, node) => sum + tracksOf(node).length, 0);
     const beside = Math.max(300, Math.min(innerHeight - 260, 620));  // in a page with other parts
     const room = fills ? root.clientHeight - sky.offsetTop - DETAIL - 34 : beside;
-    it.step = Math.max(LEAST_ROW, Math.min(fills ? MOST_ROW : 110, Math.floor((room - TOP - 4) / data.nodes.length)));
-    height = y(data.nodes.length) + 4;
+    const each = Math.floor((room - TOP - 4 - count * trackHigh) / data.nodes.length);
+    it.step = Math.max(count ? ROOMY : LEAST_ROW, Math.min(fills ? MOST_ROW : 110, each));
+    bottom = TOP;
+    tops = data.nodes.map(node => { const top = bottom; bottom += it.step + trackHigh * tracksOf(node).length; return top; });
+    height = bottom + 4;
     fitted(sky, width, height);
     fitted(strip, width, STRIP);
     it.left = left; it.width = width;
@@ -143,6 +157,63 @@ function makeLanes(it, root, events, shown, isPainted) {
     pen.textAlign = "right"; pen.font = "11px sans-serif";
     pen.fillStyle = it.chosen && it.chosen.node === node.node ? colours.focus : colours.ink;
     pen.fillText(width < 640 ? node.node : node.name, left - 8, top + high / 2 + 4, left - 10);
+    tracksOf(node).forEach((track, at) => drawTrack(node, track, top + it.step + at * trackHigh));
+  }
+
+  // A variable over time: a line for what is true or false, a step as high as a number is great, a box with the text
+  // of any other value; where values stand closer than pixels, a bar over all that they are.
+  function drawTrack(node, track, top) {
+    const low = top + trackHigh - 3, high = TRACK - 5, span = track.most - track.least, { changes } = track;
+    const levelOf = place => {
+      if (track.look === "name") return 1;
+      const number = track.numbers[place];
+      if (track.look === "flag") return number ? 1 : 0;
+      return number === null || !span ? LOWEST : LOWEST + (1 - LOWEST) * (number - track.least) / span;
+    };
+    const isChosen = it.chosen && it.chosen.track === track;
+    pen.fillStyle = colours.rule; pen.fillRect(left, low + 1, width - left, 0.6);
+    pen.font = "11px sans-serif"; pen.fillStyle = isChosen ? colours.focus : colours.faint;
+    if (width >= 640) { pen.textAlign = "right"; pen.fillText(track.name, left - 8, low - 3, left - 12); }
+    pen.save(); pen.beginPath(); pen.rect(left, top, width - left - RIGHT, trackHigh); pen.clip();
+    pen.font = "11px ui-monospace, monospace"; pen.textAlign = "left";
+    const letter = pen.measureText("m").width;
+    const from = Math.max(0, place(changes, it.from + 1) - 1);
+    for (let i = from; i < changes.length && changes[i][0] < it.to; i++) {
+      const begin = Math.max(left, x(changes[i][0]));
+      let least = levelOf(changes[i][1]), most = least, last = i;
+      const ends = at => at + 1 < changes.length ? x(changes[at + 1][0]) : x(data.end);
+      while (last + 1 < changes.length && changes[last + 1][0] < it.to && ends(last) < begin + 1) {
+        last++;
+        const level = levelOf(changes[last][1]);
+        least = Math.min(least, level); most = Math.max(most, level);
+      }
+      const end = Math.min(width, ends(last)), text = track.texts[changes[last][1]], level = levelOf(changes[last][1]);
+      pen.fillStyle = colours.track;
+      if (last > i) {  // several values within a pixel
+        pen.globalAlpha = 0.75;
+        pen.fillRect(begin, low - high * most, 1.2, Math.max(1.5, high * (most - (track.look === "name" ? 0 : least))));
+        pen.globalAlpha = 1;
+      }
+      pen.globalAlpha = 0.2; pen.fillRect(begin, low - high * level, end - begin, high * level); pen.globalAlpha = 1;
+      pen.fillRect(begin, low - high * level, end - begin, 1.2);
+      if (changes[last][0] > data.first && x(changes[last][0]) >= left) {
+        const before = i > 0 ? levelOf(changes[i - 1][1]) : 0, edge = Math.max(before, level);
+        const foot = track.look === "name" ? 0 : Math.min(before, level);
+        pen.fillRect(begin, low - high * edge, 1.2, Math.max(1.2, high * (edge - foot)));
+      }
+      const room = Math.floor((end - begin - 7) / letter);
+      if (room >= Math.min(text.length, 3) && (track.look !== "flag" || room > 8)) {
+        const words = text.length <= room ? text : text.slice(0, room - 1) + "\u2026";
+        pen.strokeStyle = colours.paper; pen.lineWidth = 3; pen.strokeText(words, begin + 4, low - 3);
+        pen.fillStyle = colours.ink; pen.fillText(words, begin + 4, low - 3);
+      }
+      i = last;
+    }
+    if (width < 640) {
+      pen.font = "10px sans-serif";
+      pen.fillStyle = isChosen ? colours.focus : colours.faint; pen.fillText(track.name, left + 4, top + 10);
+    }
+    pen.restore();
   }
 
   // USART0: lines as text where there is room for them, else bytes as dots.
@@ -193,8 +264,10 @@ function makeLanes(it, root, events, shown, isPainted) {
 
   function drawCursor() {
     if (it.chosen) {
-      const row = byNumber.get(it.chosen.node).row, px = x(it.chosen.event[0]);
-      pen.strokeStyle = colours.focus; pen.lineWidth = 2; pen.strokeRect(px - 5, y(row) + 1, 12, it.step - 5);
+      const { node, row } = byNumber.get(it.chosen.node), px = x(it.chosen.event[0]);
+      const at = it.chosen.track ? tracksOf(node).indexOf(it.chosen.track) : -1;
+      const [top, high] = at < 0 ? [y(row) + 1, it.step - 5] : [y(row) + it.step + at * trackHigh + 1, trackHigh - 3];
+      pen.strokeStyle = colours.focus; pen.lineWidth = 2; pen.strokeRect(px - 5, top, 12, high);
     }
     for (const name of ["A", "B"]) if (it.marks[name] !== null) {
       const px = x(it.marks[name]);
@@ -266,5 +339,5 @@ function makeLanes(it, root, events, shown, isPainted) {
     isPainted();
   }
 
-  return { x, y, scale, cycleAt, rowAt, size, draw, paint };
+  return { x, y, scale, cycleAt, rowAt, tracksOf, size, draw, paint, bottom: () => bottom };
 }

@@ -27,6 +27,7 @@ COLOURS = {
     "serial": Colour("#553c00", "#ffe38f"),
     "asleep": Colour("#d5dcea", "#2d3950"),
     "enter": Colour("#a0447a", "#e291bf"),
+    "track": Colour("#5b4bb0", "#b3a6f7"),
     "window": Colour("#d9a400", "#f0c93a"),
     "closed": Colour("#7f5539", "#c99b77"),
     "stopped": Colour("#e3e5e9", "#2b2f37"),

@@ -202,7 +202,12 @@ def timeline(run: Gathered, hz: int) -> Section:
         "Click an event to see who sent and who heard it; the wheel zooms once the timeline is clicked, or with Ctrl. "
         "Cycles and rows elsewhere on this page lead here."
     )
-    words = ["timeline", "--sleep", "-s", run.path, "-o", "timeline.html", "TRACE"]
+    words = ["timeline", "--sleep", "-s", run.path]
+    for name in run.watched:
+        words += ["--watch", name]
+    if run.watched:
+        words += [word for one in run.programs.all for word in ("-e", one.path)]
+    words += ["-o", "timeline.html", "TRACE"]
     return Section("time", "Timeline", [command(*words)], Html(note + timelines.element()))
 
 

@@ -14,8 +14,8 @@ function makeTimeline(data) {
   };
   const shown = kind => root.querySelector(`input[data-kind=${kind}]`)?.checked ?? true;
   const events = makeEvents(data), lanes = makeLanes(it, root, events, shown, tellStatus);
-  const { byNumber, clashes, hearersOf, sendersOf, waysOf, title, told, around } = events;
-  const { y, scale, cycleAt, rowAt, size, draw, paint } = lanes;
+  const { byNumber, clashes, hearersOf, sendersOf, waysOf, title, told, around, values } = events;
+  const { y, scale, cycleAt, rowAt, tracksOf, size, draw, paint, bottom } = lanes;
   it.paint = paint;
 
   const clock = data.hz || data.clock;
@@ -57,9 +57,21 @@ function makeTimeline(data) {
     return best;
   }
 
+  // The value of a variable that begins nearest to a cycle, at most so many cycles off.
+  function nearestValue(node, track, cycle, off) {
+    const { changes } = track, at = place(changes, cycle);
+    const near = [changes[at - 1], changes[at]].filter(event => event && Math.abs(event[0] - cycle) <= off);
+    if (!near.length) return null;
+    const event = near.reduce((a, b) => Math.abs(b[0] - cycle) < Math.abs(a[0] - cycle) ? b : a);
+    return { kind: "track", event, track, node: node.node };
+  }
+
   const make = (name, text, more = {}) => Object.assign(document.createElement(name), { textContent: text, ...more });
   const jump = (cycle, number, words) => make("button", words || "node " + number + " at " + grouped(cycle), {
     type: "button", onclick: () => { choose(number, cycle); sky.focus({ preventScroll: true }); } });
+
+  const jumpTo = (node, track, event) => make("button", `${grouped(event[0])}: ${track.texts[event[1]]}`, {
+    type: "button", onclick: () => { take({ kind: "track", event, track, node: node.node }); sky.focus({ preventScroll: true }); } });
 
   function fact(list, name, ...values) {
     if (!values.length) return;
@@ -68,14 +80,20 @@ function makeTimeline(data) {
     list.append(make("dt", name), value);
   }
 
-  function commandsAbout(node, kind, event) {
+  const inQuotes = word => "'" + word.replaceAll("'", "'\\''") + "'";
+
+  function commandsAbout(node, kind, event, track) {
     const { scenario, trace, programs } = data.files || {}, cycle = event[0];
     if (!scenario) return [];
+    if (kind === "track") {
+      const words = programs ? ` ${programs}` : "", name = inQuotes(track.name);
+      return [`avrora-tools changes${words} -n ${node.node} -w ${name} --last-before ${cycle} ${scenario}`];
+    }
     const span = `${Math.max(0, cycle - 200)} ${Math.min(data.limit || data.end, cycle + 200)}`;
     const source = programs ? ` | avrora-tools annotate -s ${scenario} ${programs}` : "";
     const found = [`avrora-tools window ${scenario} ${span}${source}`];
     if (kind === "clash" && trace) found.push(`avrora-tools links --clashes ${scenario} ${trace}`);
-    if (kind === "stop") found.push(`avrora-tools gdb ${scenario}`);
+    found.push(`avrora-tools gdb --at ${cycle} --node ${node.node}${programs ? " " + programs : ""} ${scenario}`);
     return found;
   }
 
@@ -87,9 +105,9 @@ function makeTimeline(data) {
         { className: "faint" }));
       return;
     }
-    const { kind, event } = it.chosen, node = byNumber.get(it.chosen.node).node, list = make("dl", "");
+    const { kind, event, track } = it.chosen, node = byNumber.get(it.chosen.node).node, list = make("dl", "");
     const heading = make("p", "");
-    heading.append(make("b", `node ${node.name}: ${told(node, kind, event)}`), ` in cycle ${both(event[0])}`);
+    heading.append(make("b", `node ${node.name}: ${told(node, kind, event, track)}`), ` in cycle ${both(event[0])}`);
     detail.append(heading, list);
     const where = node.where && node.where[event[0]];
     if (where !== undefined) fact(list, "executed", make("code", data.texts[where]));
@@ -109,36 +127,48 @@ function makeTimeline(data) {
       const line = node.lines[place(node.lines, event[0] + 1) - 1];
       if (line && event[0] <= line[0] + line[1]) fact(list, "line", make("code", line[2]));
     }
-    fact(list, "to look closer",
-      ...commandsAbout(node, kind, event).map(text => make("code", text, { className: "command" })));
+    if (kind === "track") {
+      const at = place(track.changes, event[0]), next = track.changes[at + 1];
+      fact(list, "until", next ? jumpTo(node, track, next) : `${grouped(data.end)}, the end of what is drawn`);
+    }
+    fact(list, kind === "track" ? "who wrote it" : "to look closer",
+      ...commandsAbout(node, kind, event, track).map(text => make("code", text, { className: "command" })));
   }
+
+  const waysTo = found => found && !found.track ? waysOf(found.node, found.kind, found.event) : [];
 
   function choose(number, cycle, keepsView = false) {
     const entry = byNumber.get(number);
     const found = entry && nearest(entry.node, cycle, 0.5) || entry && nearest(entry.node, cycle, NEAR / scale());
+    return take(found, keepsView);
+  }
+
+  function take(found, keepsView = false) {
     it.chosen = found || null;
-    it.ways = found ? waysOf(number, found.kind, found.event) : [];
+    it.ways = waysTo(it.chosen);
     if (found && !keepsView && (found.event[0] < it.from || found.event[0] >= it.to)) goTo(found.event[0]);
     tellChosen(); draw();
-    const place_ = found ? `#${found.event[0]}@${number}` : "#timeline";
+    const place_ = !found ? "#timeline" : `#${found.event[0]}${found.track ? "" : "@" + found.node}`;
     try { history.replaceState(null, "", place_); } catch { /* a page without a history */ }
     return found;
   }
 
+  const near = (node, track, cycle) =>
+    track ? nearestValue(node, track, cycle, NEAR / scale()) : nearest(node, cycle, NEAR / scale());
+
   function hover(event) {
     const frame = sky.getBoundingClientRect(), px = event.clientX - frame.left, py = event.clientY - frame.top;
-    const node = data.nodes[rowAt(py)];
+    const { row, track: at } = rowAt(py), node = data.nodes[row], track = at < 0 || !node ? null : tracksOf(node)[at];
     tip.hidden = true;
     it.pointer = px >= it.left && px <= it.width - RIGHT ? Math.max(data.first, Math.round(cycleAt(px))) : null;
-    const found = node && it.pointer !== null ? nearest(node, cycleAt(px), NEAR / scale()) : null;
-    it.ways = found ? waysOf(node.node, found.kind, found.event)
-      : it.chosen ? waysOf(it.chosen.node, it.chosen.kind, it.chosen.event) : [];
+    const found = node && it.pointer !== null ? near(node, track, cycleAt(px)) : null;
+    it.ways = waysTo(found || it.chosen);
     if (found || node && it.pointer !== null) {
       const lines = [title(node)];
-      if (found) lines.push(grouped(found.event[0]).padStart(12) + "  " + told(node, found.kind, found.event));
-      lines.push(...around(node, it.pointer));
+      if (found) lines.push(grouped(found.event[0]).padStart(12) + "  " + told(node, found.kind, found.event, track));
+      lines.push(...track ? [] : around(node, it.pointer), ...values(node, it.pointer, track));
       tip.textContent = lines.join("\n");
-      tip.hidden = lines.length === 1 && py > TOP + it.step * data.nodes.length;
+      tip.hidden = lines.length === 1 && py > bottom();
       tip.style.left = Math.max(0, Math.min(event.clientX + 14, innerWidth - tip.offsetWidth - 8)) + "px";
       tip.style.top = Math.min(event.clientY + 16, innerHeight - tip.offsetHeight - 8) + "px";
     }
@@ -177,6 +207,11 @@ function makeTimeline(data) {
 
   // The event before or behind the chosen one of its node.
   function goToEvent(forward) {
+    if (it.chosen && it.chosen.track) {
+      const { track, event: from } = it.chosen, at = place(track.changes, from[0]) + (forward ? 1 : -1);
+      if (track.changes[at]) take({ ...it.chosen, event: track.changes[at] });
+      return;
+    }
     const node = it.chosen ? byNumber.get(it.chosen.node).node : data.nodes[0];
     const base = it.chosen ? it.chosen.event[0] : middle();
     let best = null;
@@ -188,11 +223,16 @@ function makeTimeline(data) {
     if (best !== null) choose(node.node, best);
   }
 
-  function goToNode(by) {
-    const row = it.chosen ? byNumber.get(it.chosen.node).row + by : 0;
-    const node = data.nodes[Math.max(0, Math.min(row, data.nodes.length - 1))];
-    const cycle = it.chosen ? it.chosen.event[0] : middle(), found = nearest(node, cycle, data.end);
-    if (found) choose(node.node, found.event[0]);
+  // From row to row: nodes, and the variables of each below it.
+  function goToRow(by) {
+    const rows = data.nodes.flatMap(node => [{ node, track: null }, ...tracksOf(node).map(track => ({ node, track }))]);
+    const chosen = it.chosen, cycle = chosen ? chosen.event[0] : middle();
+    const isHere = row => chosen && row.node.node === chosen.node && row.track === (chosen.track || null);
+    for (let at = chosen ? rows.findIndex(isHere) + by : 0; rows[at]; at += by) {
+      const { node, track } = rows[at];
+      const found = track ? nearestValue(node, track, cycle, data.end) : nearest(node, cycle, data.end);
+      if (found) { take(found); return; }
+    }
   }
 
   function mark(name, cycle) {
@@ -235,13 +275,13 @@ function makeTimeline(data) {
     fingers.delete(event.pointerId);
     if (!fingers.size) drag = null;
     if (!wasClick) return;
-    const frame = sky.getBoundingClientRect(), px = event.clientX - frame.left,
-      node = data.nodes[rowAt(event.clientY - frame.top)];
+    const frame = sky.getBoundingClientRect(), px = event.clientX - frame.left;
+    const { row, track: at } = rowAt(event.clientY - frame.top), node = data.nodes[row];
     sky.focus({ preventScroll: true });
     if (event.shiftKey) { mark("B", cycleAt(px)); return; }
     if (event.clientY - frame.top < TOP) { mark("A", cycleAt(px)); return; }
-    const found = node ? nearest(node, cycleAt(px), NEAR / scale()) : null;
-    if (found) choose(node.node, found.event[0], true); else { it.chosen = null; it.ways = []; tellChosen(); draw(); }
+    const found = node ? near(node, at < 0 ? null : tracksOf(node)[at], cycleAt(px)) : null;
+    if (found) take(found, true); else { it.chosen = null; it.ways = []; tellChosen(); draw(); }
   }
   sky.addEventListener("pointerup", released);
   sky.addEventListener("pointercancel", released);
@@ -274,7 +314,9 @@ function makeTimeline(data) {
   for (const button of root.querySelectorAll("button[data-do]")) {
     button.addEventListener("click", deeds[button.dataset.do]);
   }
-  for (const box of root.querySelectorAll("input[data-kind]")) box.addEventListener("change", draw);
+  for (const box of root.querySelectorAll("input[data-kind]")) {
+    box.addEventListener("change", box.dataset.kind === "track" ? size : draw);
+  }
   element("goto").addEventListener("change", event => {
     const digits = event.target.value.replace(/[^0-9]/g, "");
     if (digits) goTo(Number(digits));
@@ -282,7 +324,7 @@ function makeTimeline(data) {
   const keys = {
     "+": deeds.in, "=": deeds.in, "-": deeds.out, "0": deeds.all, n: deeds.after, p: deeds.before,
     a: deeds.markA, b: deeds.markB,
-    ArrowLeft: () => pan(-0.2), ArrowRight: () => pan(0.2), ArrowUp: () => goToNode(-1), ArrowDown: () => goToNode(1),
+    ArrowLeft: () => pan(-0.2), ArrowRight: () => pan(0.2), ArrowUp: () => goToRow(-1), ArrowDown: () => goToRow(1),
     ",": () => goToEvent(false), ".": () => goToEvent(true), g: () => element("goto").focus(),
     Escape: () => { it.chosen = null; it.ways = []; it.marks = { A: null, B: null }; tellChosen(); draw(); },
   };
@@ -311,6 +353,7 @@ function makeTimeline(data) {
   element("thinned").textContent = data.thinned.split(":")[0];  // which kinds are told on hovering
   element("thinned").title = data.thinned;
   for (const name of ["before", "after"]) root.querySelector(`[data-do=${name}]`).disabled = clashes.length === 0;
+  element("track-key").hidden = !data.nodes.some(node => node.tracks.length);
   tellChosen();
   size();
   follow();

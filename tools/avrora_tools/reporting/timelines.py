@@ -57,6 +57,8 @@ def content(
             one["where"] = {cycle: texts.setdefault(text, len(texts)) for cycle, text in lane.where.items()}
         if lane.rest:
             one["rest"] = lane.rest
+        if lane.tracks:
+            one["tracks"] = thinning.of_tracks(lane) if thinning else []
         nodes.append(one)
     return {
         "first": drawing.first,

@@ -17,6 +17,22 @@ from avrora_tools.sweeping.simulation import ProcessTails
 
 
 @dataclass(frozen=True)
+class Breach:
+    """A condition that does not hold: of which node, its words, the values of what it names, and who wrote the last of
+    them, as text; no one where it never held."""
+
+    node: int
+    condition: str
+    values: str
+    writer: str | None
+
+    def __str__(self) -> str:
+        """What is wrong, alike where the same instruction broke it: so no cycle is told."""
+        text = f"node {self.node}: `{files.printable(self.condition)}` does not hold: {self.values}"
+        return text + (", as the runs begin" if self.writer is None else f", by {self.writer}" if self.writer else "")
+
+
+@dataclass(frozen=True)
 class AlwaysCheck:
     """Each condition holds in every cycle of a run, from where the runs of the sweep begin on."""
 
@@ -25,6 +41,11 @@ class AlwaysCheck:
     conditions: Sequence[Watched]
 
     def failure(self, move: Move, output: bytes) -> str | None:
+        found = self.breach(move)
+        return str(found) if found else None
+
+    def breach(self, move: Move) -> Breach | None:
+        """The first condition that a run breaks."""
         run = self.run_of(move)
         found = next(breaks(run, self.conditions, run.first, run.limit), None)
         return self.told(move, found) if found else None
@@ -34,34 +55,30 @@ class AlwaysCheck:
         that the sweep makes."""
         tails, scenario = self.tails, self.tails.scenario
         simulator, moves = tails.simulator, None
+        document = scenario.scenario((*move[:-1], None) if tails.sweeps else move)
+        path = tails.written(document)
         if tails.sweeps:
-            path = tails.written(scenario.scenario((*move[:-1], None)))
             moves = f"{path}.moves"
             files.write_whole(moves, scenario.line(move[-1]), lasting=False)
-        else:
-            path = tails.written(scenario.scenario(move))
-        state = tails.state_path
-        return Run(simulator.program, simulator.folder, path, scenario.until, state, scenario.begins, moves)
+        limit = int(document["cycles"])
+        return Run(simulator.program, simulator.folder, path, limit, tails.state_path, scenario.begins, moves)
 
-    def told(self, move: Move, found: Broken) -> str:
-        """What is wrong, alike where the same instruction broke it: so no cycle is told."""
+    def told(self, move: Move, found: Broken) -> Breach:
         node, condition = found.watched.node, found.watched.condition
         targets = self.network.names(node).targets
-        values = [f"{one.name} is {one.shown(found.values[one.name], targets)}" for one in condition.named]
-        text = f"node {node}: `{files.printable(condition.text)}` does not hold: {', '.join(values)}"
-        if found.moment is None:
-            return f"{text}, as the runs begin"
-        return text + self.by(move, node, found.moment.cycle)
+        values = ", ".join(f"{one.name} is {one.shown(found.values[one.name], targets)}" for one in condition.named)
+        writer = None if found.moment is None else self.writer(move, node, found.moment.cycle)
+        return Breach(node, condition.text, values, writer)
 
-    def by(self, move: Move, node: int, cycle: int) -> str:
-        """Who wrote in a cycle of a run, as far as a scenario says that run."""
+    def writer(self, move: Move, node: int, cycle: int) -> str:
+        """Who wrote in a cycle of a run; nothing where no scenario says that run."""
         tails = self.tails
         try:
             path = tails.written(tails.scenario.scenario(move))
         except BadInput:
             return ""
         with history(path, tails.simulator.program, tails.state_path, tails.simulator.folder) as past:
-            return f", by {Writers(past).writer(node, cycle, self.network.programs.of(node)).text}"
+            return Writers(past).writer(node, cycle, self.network.programs.of(node)).text
 
 
 def always_check(

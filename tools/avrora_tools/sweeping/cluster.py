@@ -6,8 +6,8 @@ failure is told the run is made here.
 """
 import collections
 import contextlib
-import gzip
 import os
+import zlib
 from collections.abc import Iterable, Iterator, Sequence
 from types import TracebackType
 from typing import cast
@@ -24,6 +24,8 @@ ATTEMPTS = 3  # of a run that comes to no answer
 MOST_WAITING = 20_000  # outputs that have come and cannot be told yet
 
 STATE = "state"  # its name in the shipment
+
+GZIP = 16 + zlib.MAX_WBITS  # zlib's word for gzip's format
 
 # The rows that a check of what is written reads.
 WRITTEN = (b" serial ", b" stop ")
@@ -46,7 +48,7 @@ class Tail:
         tails, scenario = self.tails, self.tails.scenario
         if not tails.sweeps or is_alone:
             return runs.Job(tails.text(scenario.scenario(self.move, self.window)), 0, {}, None)
-        text = tails.text(scenario.scenario((*self.move[:-1], None), self.window))
+        text = tails.unmoved(self.move[:-1], self.window)
         return runs.Job(text, 0, {}, (0, scenario.line(self.move[-1])))
 
 
@@ -60,6 +62,7 @@ class ClusterTails(ProcessTails):
         paths = dict.fromkeys(it["image"] for it in nodes)
         self.images = {path: f"image{number}.hex" for number, path in enumerate(paths)}
         self.stack = contextlib.ExitStack()
+        self.last_unmoved: tuple[tuple[Move, Window] | None, str] = (None, "")
         self.driver: driving.Driver | None = None
         self.asked: list[tuple[Move, Window]] = []
         self.come: dict[int, bytes] = {}
@@ -108,6 +111,14 @@ class ClusterTails(ProcessTails):
         nodes = [{**node, "image": self.images[node["image"]]} for node in document["node"]]
         return scenario_text({**document, "node": nodes})
 
+    def unmoved(self, before: Move, window: Window) -> str:
+        """The scenario of runs that one process makes, which differ in the last event alone: one text for all of them,
+        so that it is made, and goes to a worker, once a batch."""
+        if self.last_unmoved[0] != (before, window):
+            text = self.text(self.scenario.scenario((*before, None), window))
+            self.last_unmoved = (before, window), text
+        return self.last_unmoved[1]
+
     def outputs(self, jobs: Iterable[tuple[Move, Window]]) -> Iterator[bytes]:
         driver = self.driver
         assert driver
@@ -155,7 +166,7 @@ class ClusterTails(ProcessTails):
         if answer["outcome"] != runs.PASSED:
             raise CannotWork(f"a run came to no answer {attempt.number} times: {printable(answer['message'])}")
         number = attempt.run.number
-        output = gzip.decompress(answer["trace"])
+        output = zlib.decompress(answer["trace"], GZIP)  # as gzip does it, in a third of the time
         if second is None:
             self.hosts[number] = host
         if number < self.told:

@@ -44,8 +44,12 @@ class Journal:
             raise CannotWork(f"{shown(path)}: {fault.strerror}") from None
 
     def begin(self) -> None:
-        """Takes what is there, without a line that was cut; an empty file gets its first line."""
-        kept = self.read(self.file.read().split(b"\n"))
+        """Takes what is there, without a line that was cut; an empty file gets its first line. A file without a whole
+        line may be anybody's, unless it is the first part of that line."""
+        found = self.file.read()
+        kept = self.read(found.split(b"\n"))
+        if not kept and not self.line({"sweep": self.whose}).startswith(found):
+            raise BadInput(f"{shown(self.path)}: it is no file of `sweep --resume`")
         self.file.truncate(kept)
         if not kept:
             self.write({"sweep": self.whose})
@@ -74,9 +78,12 @@ class Journal:
         found: dict[str, Any] = json.loads(text)
         return found
 
-    def write(self, record: Mapping[str, object]) -> None:
+    def line(self, record: Mapping[str, object]) -> bytes:
         text = json.dumps(record).encode() + b" "
-        self.file.write(text + seals.seal(self.whose.encode() + text).hex().encode() + b"\n")
+        return text + seals.seal(self.whose.encode() + text).hex().encode() + b"\n"
+
+    def write(self, record: Mapping[str, object]) -> None:
+        self.file.write(self.line(record))
         self.file.flush()
 
     def keep(self, move: Move, wrong: Verdict) -> None:
@@ -91,8 +98,10 @@ class Journal:
 
 
 def opened(path: str) -> int:
-    """The descriptor of a file that the user names, along no link; it is made where there is none."""
+    """The descriptor of a file that the user names, along no link; it is made where there is none. Raises BadInput
+    where something else is there, or a file with another name besides, which would get the lines too."""
     with Folder.above(path) as folder:
         name = os.path.basename(path)
-        folder.refuse_link(name)
-        return os.open(name, os.O_RDWR | os.O_CREAT | os.O_APPEND | NO_LINK, 0o666, dir_fd=folder.descriptor)
+        folder.is_file(name)
+        flags = os.O_RDWR | os.O_CREAT | os.O_APPEND | os.O_NONBLOCK | NO_LINK
+        return os.open(name, flags, 0o666, dir_fd=folder.descriptor)

@@ -5,7 +5,7 @@ import os
 import signal
 import threading
 import time
-from collections.abc import Iterator
+from collections.abc import Callable, Iterator
 from types import FrameType
 
 from avrora_tools.terminal import say
@@ -20,17 +20,23 @@ SIGNALLED = 128  # and the signal: the status of what a signal ended
 class Limit:
     """Whether to go on."""
 
-    def __init__(self, seconds: float | None = None) -> None:
-        self.begun = time.monotonic()
+    def __init__(self, seconds: float | None = None, clock: Callable[[], float] = time.monotonic) -> None:
+        """`clock` tells the seconds of which there are so many: those of a clock on the wall, or of processors."""
+        self.clock = clock
+        self.begun = clock()
         self.seconds = seconds
         self.signal: int | None = None
 
     def spent(self) -> float:
-        return time.monotonic() - self.begun
+        return self.clock() - self.begun
 
     def is_over(self, share: float = 1.0) -> bool:
         """Whether it is to end, or so much of its time is over."""
         return self.signal is not None or self.seconds is not None and self.spent() >= share * self.seconds
+
+    def part(self, share: float) -> "Limit":
+        """The limit of a piece of this work, which may take such a share of its time."""
+        return Part(self, None if self.seconds is None else share * self.seconds)
 
     def reason(self) -> str:
         """What ended it, in words."""
@@ -59,6 +65,17 @@ class Limit:
         for taken in TAKEN:
             signal.signal(taken, signal.default_int_handler if taken == signal.SIGINT else signal.SIG_DFL)
         self.signal = number
+
+
+class Part(Limit):
+    """The limit of a piece of work: over where its own time is, or that of the whole."""
+
+    def __init__(self, whole: Limit, seconds: float | None) -> None:
+        super().__init__(seconds, whole.clock)
+        self.whole = whole
+
+    def is_over(self, share: float = 1.0) -> bool:
+        return self.whole.is_over() or super().is_over(share)
 
 
 class Teller:

@@ -1,9 +1,10 @@
 """What a sweep tells: its plan, its totals, its findings, and the scenario of its earliest failing run."""
 import os
-import shlex
 from collections.abc import Sequence
 
 from avrora_tools import files
+from avrora_tools.opening import Where, debug_command
+from avrora_tools.showing import shell_folder, shell_line
 from avrora_tools.sweeping.events import InputByte, MovedScenario, is_alone
 from avrora_tools.sweeping.limits import shown_time
 from avrora_tools.sweeping.plans import Cell
@@ -124,14 +125,25 @@ def write_earliest(path: str, sweep: Sweep, cell: Cell) -> list[str]:
             "beside it:\n# "
         )
     events = " and ".join(f"{m.event} at {value:,}" for m, value in zip(scenario.moved, move))
-    command = shlex.join(["avrora", words[0], *(os.path.basename(word) for word in words[1:])])
-    notes = f"# The run of a sweep with {events}.\n# {note}{files.printable(command)}\n"
+    command = shell_line(["avrora", words[0], *(os.path.basename(word) for word in words[1:])])
+    notes = f"# The run of a sweep with {events}.\n# {note}{command}\n"
     files.write_whole(path, notes + scenario_text(document))
     return [words[0], *(os.path.abspath(word) for word in words[1:])]
 
 
+def debugged(words: Sequence[str], sweep: Sweep, cell: Cell, elfs: Sequence[str]) -> str | None:
+    """The command that opens gdb where the byte of a failing run is noticed, over the scenario that the simulator runs by
+    these words (`write_earliest`); None where moves say what arrives, which a debugger cannot follow."""
+    move, point, last = cell.move(), cell.arrivals.point, sweep.scenario.moved[-1].event
+    if is_alone(last):
+        return None
+    at = point.cycle if point else move[-1] if isinstance(last, InputByte) else sweep.scenario.begins
+    path, *state = map(os.path.relpath, words[1:])
+    return debug_command(path, Where(at, sweep.node), elfs, state[0] if state else None, sweep.tails.simulator.folder)
+
+
 def shown_command(simulator: Simulator, words: Sequence[str]) -> str:
     """A line for a shell, from where this tool is called, that runs the simulator where the images are."""
-    command = shlex.join([simulator.program, *words])
+    command = shell_line([simulator.program, *words])
     here = os.path.relpath(simulator.folder)
-    return command if here == os.curdir else f"(cd {shlex.quote(here)} && {command})"
+    return command if here == os.curdir else f"(cd {shell_folder(here)} && {command})"
