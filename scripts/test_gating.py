@@ -423,7 +423,7 @@ class Run(Folder):
     def test_help(self):
         status, lines, err, ran = self.run_all("--help")
         self.assertEqual((status, err, ran), (0, "", []))
-        self.assertTrue(lines[0].startswith("What is to pass before a change lands: .ci/run [--without PACKAGE].."))
+        self.assertTrue(lines[0].startswith("Runs all that must pass before a change lands: .ci/run [--without PACKAGE].."))
 
     def test_no_kit(self):
         self.assert_no_gate(
