@@ -1,12 +1,12 @@
 #!/usr/bin/env python3
 """Proves a program of this repository and every crate below it, as many side by side as there are processors and
-memory, and builds it. `./avrora` calls it before each command; where nothing changed, it ends at once.
+memory, and builds it. `./avrora` calls it where a file changed since it was called last (scripts/proving/seen.py).
 
     prove.py PROGRAM ROOM
 
-leaves the program at ROOM/PROGRAM. What is proved of a crate is kept in ROOM too, until the kit changes, a source of the crate, or
-a library below it: a change that leaves the library of its crate as it was (a comment, a proof) ends there. A program that is
-not the one that was built here (emptied, cut off, replaced) is built again. Exit status: 0 the program is there, 1 a crate was not
+leaves the program at ROOM/PROGRAM. It keeps what is proved of a crate in ROOM too, until the kit, a source of the crate, or a library
+below it changes. So a change that leaves the library of its crate as it was (a comment, a proof) ends there. It builds a program again
+that is not the one that was built here (emptied, cut off, replaced). Exit status: 0 the program is there, 1 a crate was not
 proved or built, 2 bad words, 128 and its number after a signal, which ends the checks too.
 
     prove.py --adopt FILE ROOM
