@@ -4,7 +4,7 @@ import time
 from collections import Counter
 from collections.abc import Callable, Iterator, Sequence
 
-from avrora_tools.hunting.causes import Finding, Lines, Look, look_of
+from avrora_tools.hunting.causes import Finding, Lines, look_of
 from avrora_tools.hunting.waiting import Failing, Waiting
 from avrora_tools.hunting.changes import Document, Trial
 from avrora_tools.hunting.kinds import Facts, Kind, kinds_of
