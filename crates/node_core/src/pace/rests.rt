@@ -40,6 +40,7 @@ impl Machine {
 
     /// Cycles in which the node only waits or sleeps, from `cycle` on and of at most `most`: how many it were, 0 where
     /// the next one is to be taken by itself.
+    #[inline(always)]
     pub fn rest(&mut self, cycle: u64, most: u64) -> u64
         requires going { self.old.stop ≡ None }
         requires now { self.old.bus.io.clock ≡ cycle }
