@@ -18,7 +18,6 @@ use Rattle.serial_ports.specs.Transmission.{end_of}
 use Rattle.serial_ports.specs.Usart.{is_filled, lines_of as usart_lines, started}
 use Rattle.serial_ports.specs.UsartRegisters.{sent_out}
 use Rattle.serial_ports.specs.declared.usart.Usart.{Usart}
-use Rattle.serial_ports.specs.declared.usart.UsartLines.{UsartLines}
 use Rattle.serial_ports.specs.declared.usart_registers.UsartReg.TheVariants.{Udr}
 
 abbrev sent : ℕ → Board → ℕ → Board

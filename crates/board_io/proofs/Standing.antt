@@ -21,7 +21,6 @@ use Rattle.avr_timers.specs.declared.timer16.Timer16.{Timer16}
 use Rattle.avr_timers.specs.declared.timer8.Timer8.{Timer8}
 use Rattle.board_io.specs.Cycle.{board_quiet, timers_leap}
 use Rattle.board_io.specs.Lagging.{is_standing, stays_16, stays_8}
-use Rattle.board_io.specs.Lines.{lines_of}
 use Rattle.board_io.specs.Registers.{put_by, with_t0, with_t1, with_t2, with_t3}
 use Rattle.board_io.specs.declared.board.Board.{Board}
 use Rattle.board_io.specs.declared.rules.Rule.{Rule}

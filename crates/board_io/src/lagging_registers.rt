@@ -236,6 +236,7 @@ impl Board {
 impl LaggingBoard {
     /// Whether a load at a data address below 0x0100 changes nothing, and gives the same byte in each cycle before the
     /// next event.
+    #[inline(always)]
     pub fn reads_still(&self, at: u16) -> bool
         ensures { result ≡ true → ReadsStill self.now.board at }
     {

@@ -178,6 +178,7 @@ impl Board {
 
     /// The interrupt lines: bit n is set exactly where the vector at word address 2n has a source whose flag and whose
     /// enable bit are set.
+    #[inline(always)]
     #[tactic(auto, unfolding(crate::specs::Lines::lines_of))]
     pub fn lines(&self) -> Lines
         ensures { result ≡ lines_of self.now }

@@ -9,6 +9,7 @@ use crate::machine::Machine;
 
 impl Machine {
     // Cycles of an instruction or an entry that are counted off, of at most so many: how many it were.
+    #[inline(always)]
     fn wait_out(&mut self, cycle: u64, most: u64) -> u64
         requires going { self.old.stop ≡ None }
         requires now { self.old.bus.io.clock ≡ cycle }

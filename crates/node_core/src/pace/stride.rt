@@ -81,7 +81,9 @@ impl Machine {
     }
 
     /// Cycles from `cycle` on, of at most `most`, in which the devices end nothing, and for whose rows there is room: how
-    /// many it were. Of the cycle after them the processor's part is done, and the devices' part is still to come.
+    /// many it were. Of the cycle after them the processor's part is done, and the devices' part is still to come. In a call of
+    /// its own: inlined, what its caller keeps would take registers of the host from the sprint in it.
+    #[inline(never)]
     pub fn stride(&mut self, cycle: u64, most: u64) -> u64
         requires going { self.old.stop ≡ None }
         requires now { self.old.bus.io.clock ≡ cycle }

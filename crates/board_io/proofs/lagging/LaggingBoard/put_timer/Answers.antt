@@ -1,4 +1,4 @@
-use Rattle.std.proofs.Common.{◌-◌, ◌≡◌, not, Bool, true, false, sym, ap, ◌∙◌}
+use Rattle.std.proofs.Common.{◌-◌, ◌≡◌, true, sym, ◌∙◌}
 use Rattle.board_io.specs.Lagging.{is_standing}
 use Rattle.board_io.proofs.Apart.{write_ahead_apart, write_apart}
 use Rattle.board_io.proofs.Standing.{standing_apart}
