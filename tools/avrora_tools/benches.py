@@ -16,8 +16,19 @@ import time
 from collections.abc import Iterator, Sequence
 from typing import Any, BinaryIO, cast
 
-from avrora_tools import calling, cases, comparisons, expectations, outputs, predicates, runs, scenarios
-from avrora_tools.errors import ToolError
+from avrora_tools import (
+    calling,
+    cases,
+    comparisons,
+    deadlines,
+    expectations,
+    observed_runs,
+    outputs,
+    predicates,
+    runs,
+    scenarios,
+)
+from avrora_tools.errors import CannotWork, ToolError
 from avrora_tools.outputs import Ends
 from avrora_tools.runs import BROKEN, FAILED, PASSED, PROGRAM, REFUSED, SCENARIO
 from avrora_tools.runs import Answer, Job, ShippedCase, ShippedFile, Shipment, Sick, answer
@@ -42,6 +53,10 @@ class NoAnswer(Exception):
         self.answer = found
 
 
+class Late(CannotWork):
+    """Conditions on variables that are not judged in time."""
+
+
 class Bench:
     """A folder with a shipment, where runs take place."""
 
@@ -50,6 +65,7 @@ class Bench:
         self.folder = ""
         self.cases: dict[int, list[cases.Case]] = {}
         self.predicates: dict[str, predicates.Predicate] = {}
+        self.observers = observed_runs.Observers("")
         self.images: dict[str, bytes] = {}  # that are in the folder of a run's own
         self.head: tuple[tuple[str, int], bytes] = (("", 0), b"")  # of a scenario's first epochs: their rows
         self.state_name = SWEPT_STATE
@@ -90,6 +106,7 @@ class Bench:
         """Writes the files of the shipment that are not there, and opens anew those that a run writes to."""
         if not os.path.isdir(self.folder):
             self.folder = tempfile.mkdtemp(prefix="avrora-", dir=self.place)
+            self.observers = observed_runs.Observers(self.folder)
         self.files.close()
         self.trace, self.output = (
             self.files.enter_context(open(f"{self.folder}/{name}", "w+b", buffering=0)) for name in (TRACE, OUTPUT)
@@ -111,7 +128,7 @@ class Bench:
         begun = time.monotonic()
         places = itertools.count()
 
-        def made_together(job: Job) -> tuple[str | int, ...]:
+        def made_together(job: Job) -> tuple[object, ...]:
             return (job.scenario, job.check, job.moves[0]) if job.moves else (next(places),)
 
         for _, alike in itertools.groupby(jobs, made_together):
@@ -332,10 +349,16 @@ class Bench:
         failures = []
         for shipped, case in zip(check.cases, self.cases[index]):
             self.trace.seek(0)
+
+            def unmet(shipped: ShippedCase = shipped, case: cases.Case = case) -> list[str]:
+                return self.unmet_conditions(shipped, case, f"{place}/{SCENARIO}", scenario)
+
             try:
-                failure = expectations.check(case, cast(BinaryIO, self.trace), window=window).failure
+                failure = expectations.check(
+                    case, cast(BinaryIO, self.trace), window=window, conditions=unmet if case.conditions else None
+                ).failure
             except ToolError as fault:
-                return answer(BROKEN, f"{shipped.path}: {fault}")
+                return answer(BROKEN, f"{shipped.path}: {observed_runs.named(str(fault), self.folder, shipped)}")
             if failure:
                 for golden in shipped.goldens:
                     failure = failure.replace(f"{self.folder}/{golden.file}", golden.path)
@@ -362,6 +385,19 @@ class Bench:
         judged["hash"], judged["counts"] = outputs.looked_through(self.trace)
         judged["compared"] = compared
         return judged
+
+    def unmet_conditions(self, shipped: ShippedCase, case: cases.Case, path: str, text: str) -> list[str]:
+        """What is not met of the conditions of a case over the run of the scenario in the file `path`, a text each.
+        Raises NoAnswer where the simulator does not come to it."""
+        scenario = scenarios.Scenario.of_text(text, "the scenario", os.path.dirname(path))
+        late = Late(f"{shipped.path}: its conditions took more than {self.shipment.timeout} s")
+        try:
+            with deadlines.in_time(self.shipment.timeout, late):
+                return list(self.observers.observer(shipped, case, scenario, path).failures())
+        except CannotWork as fault:
+            is_late = fault is late
+            told = observed_runs.named(str(fault), self.folder, shipped)
+            raise NoAnswer({**answer(BROKEN, told, again=True, trouble=not is_late), "late": is_late}) from None
 
     def read(self, text: str) -> scenarios.Scenario | None:
         """A scenario as the tools read it, once for runs that have the same one; None where the simulator is to say

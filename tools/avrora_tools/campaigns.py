@@ -12,12 +12,13 @@ import os
 import re
 from collections.abc import Iterator, Sequence
 
-from avrora_tools import campaign_keys, cases, predicates, runs
+from avrora_tools import campaign_keys, cases, observed_runs, predicates, runs
 from avrora_tools.campaign_keys import Table
 from avrora_tools.cases import Case
 from avrora_tools.draws import Code, DrawnGroup
 from avrora_tools.errors import BadInput
 from avrora_tools.files import printable, read_named, read_named_text, read_text
+from avrora_tools.observing import expecting
 from avrora_tools.spreads import MAX_RUNS, axis_of, flat
 from avrora_tools.variants import Axis, Group, NetworkGroup, Run, ScenarioGroup, content_name, parsed, shown
 
@@ -108,6 +109,16 @@ class Campaign:
             predicates.Predicate(path, self.settings["timeout"])
 
 
+    def demand_conditions(self) -> None:
+        """Raises BadInput where a condition of a case is none of the programs of the runs that it is of: each statement
+        that could not fail is told before the first run. Of each group its first run and its last are looked at."""
+        for group in self.groups:
+            shipped = [case for case in self.checks[group.check].cases if case.has_conditions]
+            for index in sorted({0, group.count - 1}) if shipped else ():
+                run = group.run(index, index)
+                observed_runs.demand(run.shipped(), {**self.files, **run.images()}, shipped, run.name)
+
+
 def demand(allowed: bool, place: str, key: str, path: str) -> None:
     """Raises BadInput where code is not to run."""
     if not allowed:
@@ -125,6 +136,7 @@ class Digests:
             for case in check.cases:
                 parts += ["case", case.path, case.file]
                 parts += itertools.chain(*(("golden", golden.path, golden.file) for golden in case.goldens))
+                parts += itertools.chain(*(("elf", program.nodes, program.file) for program in case.programs))
             if check.code:
                 parts += ["check", check.code.path, check.code.file]
             text = "\0".join([*parts, "scenario", ""])
@@ -268,7 +280,7 @@ def groups_of(place: str, table: Table, folder: str, files: Files, checks: list[
         path = os.path.join(folder, table["scenario"])
         scenario = parsed(read_named_text(path), path)
         group = ScenarioGroup(place, name or stem(path), axes, check(shipped), scenario, os.path.dirname(path), ship)
-        if ways:  # each is made and compared by itself
+        if ways or any(case.shipped.has_conditions for case in read):  # each is made and looked at by itself
             group.moved = None
         yield group
     elif not read:
@@ -277,7 +289,10 @@ def groups_of(place: str, table: Table, folder: str, files: Files, checks: list[
         for case in read:
             case_name = f"{name} {stem(case.read.path)}".strip()
             scenario = source_of(place, case.read)
-            yield ScenarioGroup(place, case_name, axes, check([case.shipped]), scenario, case.read.folder, ship)
+            group = ScenarioGroup(place, case_name, axes, check([case.shipped]), scenario, case.read.folder, ship)
+            if case.shipped.has_conditions:
+                group.moved = None
+            yield group
 
 
 def texts(value: str | Sequence[str]) -> Sequence[str]:
@@ -309,7 +324,7 @@ class CampaignCase:
 
 
 def case_of(place: str, path: str, folder: str, files: Files) -> CampaignCase:
-    """A case of `expect` for the shipment; its golden traces go with it."""
+    """A case of `expect` for the shipment; its golden traces and its programs go with it."""
     full = os.path.join(folder, path)
     case = cases.read_case(full)
     goldens = [
@@ -317,7 +332,14 @@ def case_of(place: str, path: str, folder: str, files: Files) -> CampaignCase:
         for statement in case.statements
         if isinstance(statement, cases.Golden)
     ]
-    return CampaignCase(case, runs.ShippedCase(files.add(place, full), path, tuple(goldens)))
+    programs = []
+    for nodes, name in map(expecting.parts_of, case.elfs):
+        shipped = files.add(place, os.path.join(case.folder, name))
+        programs.append(runs.ShippedProgram(shipped, name, nodes))
+    file = files.add(place, full)
+    return CampaignCase(
+        case, runs.ShippedCase(file, path, tuple(goldens), tuple(programs), bool(case.conditions))
+    )
 
 
 def file_name(name: str) -> str:

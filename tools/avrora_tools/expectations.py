@@ -451,7 +451,7 @@ def check(
     # A case may expect what a scenario's byte time allows and another's does not.
     trace = traces.Trace(blocks, name, traces.Form.WHOLE, least_gap=BYTE_TIME.start, lacking=lacking)
     if case.conditions and conditions is None:
-        why = "a condition on variables is judged by `expect` alone, over the run that the case names"
+        why = "a condition on variables is judged over a run, by `expect`, `campaign` and `report`, and not over a trace"
         raise BadInput(f"{files.shown(case.path)}, line {case.conditions[0].line}: {why}")
     looked = 0
     gaps: list[Gap] = []
@@ -661,7 +661,7 @@ def observer_of(case: Case, avrora: str) -> "Observer | None":
         return None
     from avrora_tools.observing.expecting import Observer
 
-    return Observer(case, avrora)
+    return Observer.of_case(case, avrora)
 
 
 def checked_run(

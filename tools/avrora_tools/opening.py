@@ -1,8 +1,9 @@
 """The command that opens avr-gdb where something was found (docs/DEBUGGING.md)."""
 import os
-import shlex
 from collections.abc import Sequence
 from typing import NamedTuple
+
+from avrora_tools.showing import shell_line
 
 
 class Where(NamedTuple):
@@ -22,4 +23,4 @@ def debug_command(
     words += ["--state", state] if state else []
     beside = os.path.dirname(os.path.abspath(scenario))
     words += ["--images", images] if images and os.path.realpath(images) != os.path.realpath(beside) else []
-    return shlex.join([*words, scenario])
+    return shell_line([*words, scenario])

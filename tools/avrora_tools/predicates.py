@@ -6,35 +6,18 @@ decides a result must stand in it: one that reads other files is refused.
 """
 import contextlib
 import os
-import signal
-from collections.abc import Iterator, Sequence
-from types import FrameType
+from collections.abc import Sequence
 from typing import Any
 
+from avrora_tools import deadlines
 from avrora_tools.errors import BadInput
 from avrora_tools.files import printable, shown
 from avrora_tools.recording import Recorder, is_own, source_of
 from avrora_tools.sweeping.verdicts import PredicateCheck, predicate_of
 
 
-class TooLong(BadInput):
-    """A function that does not come to its end in time."""
-
-
-@contextlib.contextmanager
-def in_time(seconds: float) -> Iterator[None]:
-    """Raises TooLong in the block, which is of the main thread, once it takes longer."""
-
-    def end(_number: int, _frame: FrameType | None) -> None:
-        raise TooLong(f"check() took more than {seconds:g} s")
-
-    before = signal.signal(signal.SIGALRM, end)
-    signal.setitimer(signal.ITIMER_REAL, seconds)
-    try:
-        yield
-    finally:
-        signal.setitimer(signal.ITIMER_REAL, 0)
-        signal.signal(signal.SIGALRM, before)
+def in_time(seconds: float) -> contextlib.AbstractContextManager[None]:
+    return deadlines.in_time(seconds, BadInput(f"check() took more than {seconds:g} s"))
 
 
 class Predicate:

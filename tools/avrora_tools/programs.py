@@ -238,6 +238,17 @@ class Programs:
         else:
             self.by_node.update(dict.fromkeys(nodes, program))
 
+    def add_by_content(self, path: str, scenario: Scenario, name: str) -> None:
+        """Adds the program in the file `path`, which messages call `name`, as that of the nodes whose image has its
+        memory, whatever the image is called. Raises BadInput where there is none."""
+        program = Program(path)
+        flashes = {image: images.load(os.path.join(scenario.folder, image)) for image in dict.fromkeys(scenario.images)}
+        nodes = [node for node, image in enumerate(scenario.images) if flashes[image] == program.flash]
+        if not nodes:
+            raise BadInput(f"{files.shown(name)}: no node has an image of this program")
+        self.all.append(program)
+        self.by_node.update(dict.fromkeys(nodes, program))
+
     def of(self, node: int) -> Program | None:
         """The program of a node, or None."""
         return self.by_node.get(node, self.others)

@@ -65,12 +65,22 @@ class ShippedFile:
 
 
 @dataclasses.dataclass(frozen=True)
+class ShippedProgram(ShippedFile):
+    """The ELF file of a program, and the nodes that run it such as 0,2-4; "" for those whose image has its memory."""
+
+    nodes: str
+
+
+@dataclasses.dataclass(frozen=True)
 class ShippedCase:
-    """A case of `expect`, and its golden traces in their order."""
+    """A case of `expect`, its golden traces in their order, and the programs of which its conditions name
+    variables."""
 
     file: str
     path: str
     goldens: tuple[ShippedFile, ...]
+    programs: tuple[ShippedProgram, ...] = ()
+    has_conditions: bool = False
 
 
 class Job(NamedTuple):

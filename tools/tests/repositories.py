@@ -254,14 +254,15 @@ class World:
             [
                 {"form": "cut", "sender": 0, "hearer": 1, "first": 0, "end": draw.choice([2**40, 2**70, -1])},
                 {"form": "latency", "sender": 0, "hearer": 1, "cycles": draw.choice([1, 0, 2**40])},
-                {"form": "input", "node": 0, "at": 5_000, "every": 7_680, "hex": draw.choice(["72", "\x1b[31m", "7"])},
+                {"form": "input", "node": 0, "at": 5_000, "every": 1, "hex": draw.choice(["72", "\x1b[31m", "7"])},
                 {"form": "input", "node": draw.choice([0, 99, -1]), "at": 5_000, "every": 1, "hex": "7265\n"},
                 {"form": "cut", "sender": 0, "hearer": 1, "first": "0", "end": 5},
             ]
         )
         trial = {"kind": draw.choice(["cuts", self.name()]), "what": self.name(), "changes": [change]}
         failed = draw.choice([[trial], [trial] * 3, trial, "\x1b[31m", [[]]])
-        corpus = {"version": draw.choice([1, 1, 1, 2]), "seed": 1, "rounds": draw.choice([0, 0, -5, 10**9]), "failed": failed}
+        rounds = draw.choice([0, 0, -5, 10**9])
+        corpus = {"version": draw.choice([1, 1, 1, 2]), "seed": 1, "rounds": rounds, "failed": failed}
         for folder in ("relay.hunt", f"{os.path.splitext(self.odd_scenario)[0]}.hunt"):
             if os.path.lexists(f"{self.repo}/{folder}"):
                 continue
@@ -278,9 +279,10 @@ class World:
         else:
             lines = ['{"sweep": "0"} 00\n', f'{{"move": [5000], "wrong": null}} {"0" * 64}\n', "half a line", ""]
             self.write(f"{self.repo}/sweep.log", "".join(draw.sample(lines, 2)))
-        place = draw.choice(["relay.toml", "relay.toml", "early.toml", f"{self.home}/.netrc", "../home/work", "/dev/zero"])
-        stated = draw.choice(["always 0 head < 9", "reaches 0 ring[0] == 114", "never 0 SP == 0", f"always 0 {self.name()}"])
-        self.write(f"{self.repo}/r.expect", f"run {place}\nelf {draw.choice(['relay.elf', 'out', '../home/.netrc'])}\n{stated}\n")
+        places = ["relay.toml", "relay.toml", "early.toml", f"{self.home}/.netrc", "../home/work", "/dev/zero"]
+        conditions = ["always 0 head < 9", "reaches 0 ring[0] == 114", "never 0 SP == 0", f"always 0 {self.name()}"]
+        elf = draw.choice(["relay.elf", "out", "../home/.netrc"])
+        self.write(f"{self.repo}/r.expect", f"run {draw.choice(places)}\nelf {elf}\n{draw.choice(conditions)}\n")
 
     def elf(self):
         """A program whose names are changed."""

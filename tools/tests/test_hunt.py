@@ -1,8 +1,10 @@
 """Hunts by the program that AVRORA_PROGRAM names: of the network of examples/races, and of examples/hunt."""
 import os
 import re
+import shlex
 import shutil
 import subprocess
+import sys
 from pathlib import Path
 
 import pytest
@@ -98,7 +100,19 @@ def test_a_scenario_that_fails_unvaried_is_refused(at, tmp_path):
 
 
 @pytest.mark.parametrize(
-    "words", [["--until", "900_001"], ["--only", "starts,nothing"], ["--expect", "a", "--check", "b"], ["--nodes", "7"]]
+    "words",
+    [
+        ["--until", "900_001"],
+        ["--only", "starts,nothing"],
+        ["--expect", "a", "--check", "b"],
+        ["--check", "a", "--always", "1 SP > 0x200"],
+        ["--always", "SP > 0x200"],
+        ["--always", "4 SP > 0x200"],
+        ["--always", "1 nothing <= 1"],
+        ["--always", "1 SP > 0x200", "--scheduler", "tcp://127.0.0.1:1"],
+        ["--processor-minutes", "1", "--scheduler", "tcp://127.0.0.1:1"],
+        ["--nodes", "7"],
+    ],
 )
 def test_bad_words_have_status_two(at, words):
     status, _, err = run_tool("hunt", "alarm.toml", *at("races"), *words)
@@ -114,3 +128,35 @@ def test_arrivals_are_swept_where_handler_and_main_share_something(at):
     command = re.search(r"^   (\S.* sweep .*race-\d\.toml.*)$|^   (.*avrora.*race-1\.toml.*)$", out, re.M)
     assert command and subprocess.run(command[0].strip(), shell=True, capture_output=True, check=False).returncode == 0
 
+
+
+@needs_compiler
+def test_a_condition_holds_in_every_cycle_of_each_run(at, tmp_path):
+    words = ["hunt", "alarm.toml", "-e", "alarm.elf", *at("races"), "--until", "700_000", "--only", "arrivals"]
+    status, out, err = run_tool(*words, "--rounds", "3", "--always", "2 queued <= 1")
+    assert (status, err) == (1, "") and re.search(r"^1\. not met: node 2: `queued <= 1` does not hold: queued is 2, by enqueue", out, re.M)
+    command = re.search(r"^   avrora-tools (sweep alarm\.toml --input 2:1=.* --always '2 queued <= 1')$", out, re.M)
+    status, swept, _ = run_tool(*shlex.split(command[1]))
+    assert status == 1 and "`queued <= 1` does not hold" in swept
+    status, _, err = run_tool(*words, "--rounds", "1", "--always", "2 queued <= 0")
+    assert status == 2 and "fails as it is, with nothing varied: node 2: `queued <= 0` does not hold" in err
+
+
+def test_the_commands_of_a_finding_open_it(at, tmp_path, monkeypatch):
+    words = ["hunt", "alarm.toml", *at("races"), "--until", "700_000", "--rounds", "1", "--only", "starts"]
+    status, out, _ = run_tool(*words)
+    assert status == 1
+    programs = tmp_path / "programs"
+    programs.mkdir()
+    (programs / "avrora").symlink_to(PROGRAM)
+    (programs / "avrora-tools").symlink_to(Path(TOP) / "avrora-tools")
+    monkeypatch.setenv("PATH", f"{programs}:{os.environ['PATH']}")
+    monkeypatch.setenv("PYTHON", sys.executable)
+    commands = re.findall(r"^   (\(.*\))$", out, re.M)
+    assert len(commands) >= 4
+    for command in commands:
+        if " gdb " in command:  # it waits for a debugger
+            continue
+        ran = subprocess.run(command, shell=True, capture_output=True, text=True, check=False)
+        assert ran.returncode in ((0, 1) if re.search(" (diff|sweep) ", command) else (0,)), (command, ran.stderr)
+    assert list((tmp_path / "corpus").glob("found-1.toml.html"))

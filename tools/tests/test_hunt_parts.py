@@ -11,11 +11,15 @@ from avrora_tools.hunting.changes import FOR_GOOD, Cut, Input, Latency, Trial, r
 from avrora_tools.hunting.corpus import Corpus
 from avrora_tools.hunting.kinds import NAMES, Cuts, Facts, kinds_of
 from avrora_tools.hunting.oracles import DOUBLED, LOST, SILENT, STOPPED, WRONG, Failure, Oracle, Reference
-from avrora_tools.hunting.races import stretches
-from avrora_tools.hunting.said import Burst, bursts_of, clashes_at
+from avrora_tools.hunting.races import stretches, sweep_command
+from avrora_tools.hunting.said import Burst, bursts_of, clashes_at, without_samples
 from avrora_tools.hunting.smaller import Scene, Smaller
+from avrora_tools.hunting.waiting import Failing, Waiting
+from avrora_tools.hunting.watching import breach_in, row_of
 from avrora_tools.scenarios import Scenario
+from avrora_tools.sweeping.always import Breach
 from avrora_tools.sweeping.events import InputByte
+from avrora_tools.sweeping.limits import Limit
 from avrora_tools.sweeping.simulation import scenario_text
 
 DOCUMENT = {
@@ -101,6 +105,27 @@ def test_what_was_said():
         Burst(1, 100, 1_100, b"\xaa\xbb"), Burst(1, 5_000, 5_000, b"\xcc"), Burst(0, 5_100, 5_100, b"\xdd"),
     ]  # fmt: skip
     assert (clashes_at(SAID, 0), clashes_at(SAID, 1)) == (1, 0)
+
+
+def test_rows_that_are_looked_at():
+    samples = rows("90 0 heard 0 00 0", "95 0 heard 1 AA 91")
+    assert without_samples(samples + SAID + samples) == SAID
+    case = Oracle(range(3), user=object())  # a check of the user may count all samples
+    assert case.rows(samples) == samples and Oracle(range(3)).rows(samples) == b""
+
+
+BREACH = Breach(2, "queued <= 1", "queued is 2", "enqueue+0x28 alarm.c:27")
+
+
+def test_a_condition_that_does_not_hold():
+    assert breach_in(SAID + row_of(BREACH)) == BREACH and breach_in(SAID) is None
+    oracle = Oracle(range(3), has_conditions=True)
+    found = oracle.failure(REFERENCE, None, serial(b"a\n") + row_of(BREACH))
+    assert found.text == "node 2: `queued <= 1` does not hold: queued is 2, by enqueue+0x28 alarm.c:27"
+    assert found.cause() == ("not met", "`queued <= 1` broken by enqueue+0x28 alarm.c:27")
+    assert oracle.failure(REFERENCE, None, serial(b"a\n")) is None  # what is written it does not look at
+    other = Breach(2, "queued <= 1", "queued is 3", "main")
+    assert oracle.failure(REFERENCE, None, row_of(other)).cause() != found.cause()
 
 
 REFERENCE = Reference(serial(b"a\nb\n") + serial(b"c\n", begin=60_000), 50_000, 100_000)
@@ -191,8 +216,71 @@ def test_a_failing_scenario_becomes_small():
     assert small.trial.changes == (Cut(1, 0, 400, 500),) and failure.class_ == LOST
     assert [len(small.document["node"]), len(small.document["link"])] == [2, 1]
     assert small.until < 50_000 and small.document["cycles"] - small.until == 50_000
-    fixed = Smaller(FakeRunner(), lambda count: Oracle(range(count)), False, lambda: False)
-    assert len(fixed.smaller(scene, failure)[0].document["node"]) == 3
+
+
+def test_a_check_knows_nodes_by_their_numbers():
+    trial = Trial("pairs", "", (Cut(1, 0, 400, 500), Input(2, 350, 400, "024142")))
+    smaller = Smaller(FakeRunner(), lambda count: Oracle(range(count)), False, lambda: False)
+    scene = Scene(DOCUMENT, 50_000, trial)
+    small, _ = smaller.smaller(scene, smaller.failure(scene))
+    assert len(small.document["node"]) == 3 and small.trial.changes == (Cut(1, 0, 400, 500),)
+    assert small.document["link"] == [DOCUMENT["link"][1]] and [it["node"] for it in small.document["input"]] == [0]
+    assert small.size()[:2] == (2, 1)
+
+
+def test_the_run_without_changes_is_made_once():
+    made = []
+
+    class Counting(FakeRunner):
+        def outputs(self, documents):
+            made.extend(map(str, documents))
+            return super().outputs(documents)
+
+    smaller = Smaller(Counting(), lambda count: Oracle(range(count)), True, lambda: False)
+    scenes = [Scene(DOCUMENT, 50_000, Trial("cuts", "", (Cut(1, 0, at, 500),))) for at in (400, 430, 460)]
+    assert [found and found.class_ for found in smaller.failures(scenes)] == [LOST, LOST, None]
+    assert len(made) == 4 and made.count(str(DOCUMENT)) == 1
+
+
+def failing(what, text="node 0 did not write 'a'", look=(LOST,), changes=1):
+    return Failing(Trial("starts", what, TRIAL.changes[:changes]), Failure(LOST, 0, text), look)
+
+
+def test_what_differs_most_is_made_small_first():
+    waiting = Waiting()
+    waiting.count_small(failing("starts 5 apart"))
+    assert waiting.knows((LOST,)) and not waiting.knows((DOUBLED,))
+    alike, large = failing("starts 70 apart"), failing("node 1 starts at another time", changes=3)
+    small, lost = failing("node 2 starts at another time"), failing("starts 80 apart", "node 0 did not write 'b'")
+    rare = failing("starts 90 apart", look=(DOUBLED,))
+    for it in (alike, large, small, lost, rare):
+        waiting.put(it)
+    order = []
+    while waiting.count():
+        order.append(waiting.next())
+        waiting.count_small(order[-1])
+    assert order[0] is rare and set(map(id, order[1:3])) == {id(small), id(lost)} and order[-1] is alike
+    waiting.put(alike)
+    assert list(waiting.rest()) == [alike] and waiting.count() == 0
+
+
+def test_a_piece_of_work_has_a_limit_of_its_own():
+    now = [0.0]
+    whole = Limit(100.0, lambda: now[0])
+    now[0] = 60.0
+    part = whole.part(0.1)
+    now[0] = 66.0
+    assert whole.is_over(0.5) and not whole.is_over() and part.is_over(0.5) and not part.is_over()
+    now[0] = 70.0
+    assert part.is_over() and not whole.is_over()
+    late = whole.part(0.9)
+    now[0] = 100.0
+    assert late.is_over() and not Limit().part(0.1).is_over()
+
+
+def test_a_sweep_of_what_fails():
+    command = sweep_command(InputByte(2, 1, is_alone=True), (5, 40), "a b.elf")
+    assert command == "--input 2:1=1..52 --alone -e 'a b.elf'"
 
 
 def test_looks_of_causes():

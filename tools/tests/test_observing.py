@@ -276,5 +276,5 @@ def test_a_judge_tells_each_turn(names):
     judge = Judge([condition], {0: [one]}, {(0, 0): b"\x00"})
     settler = Settler({0: [one]}, {(0, 0): bytes(1)})
     changes = (Change(cycle, Place(0, Kind.BYTE, one.address), byte) for cycle, byte in ((5, 2), (9, 3), (12, 4), (20, 1)))
-    turned = [(moment.cycle, value) for moment in settler.moments(changes) for _, value in judge.take(moment)]
+    turned = [(moment.cycle, value) for moment in settler.moments(changes) for _, value, _ in judge.take([moment])]
     assert judge.holds == [True] and turned == [(9, False), (20, True)]

@@ -199,3 +199,18 @@ class OnDask(test_cluster.Cluster):
         told = self.swept("--scheduler", self.address)
         self.assertIn("moves: 514,208 to 514,211", told)
         self.assertEqual(told, self.swept())
+
+    def hunted(self, *words):
+        """What a hunt says, without how long it took."""
+        shutil.copytree(Path(TOP) / "examples/races", f"{self.path}/races", dirs_exist_ok=True)
+        hunt = ["hunt", f"{self.path}/races/alarm.toml", "--until", "700_000", "--rounds", "1", "--only", "starts,cuts"]
+        ran = subprocess.run([*TOOL, *hunt, *words], capture_output=True, text=True, timeout=LONG, check=False)
+        self.assertEqual((ran.returncode, ran.stderr), (1, ""))
+        shutil.rmtree(f"{self.path}/races/alarm.hunt")
+        return re.sub(r"(?m)^[\d,]+ runs in .*|^found after .*", "", ran.stdout)
+
+    def test_a_hunt_finds_the_same(self):
+        self.wait_for_workers(2)
+        told = self.hunted("--scheduler", self.address)
+        self.assertIn("node 0 did not write", told)
+        self.assertEqual(told, self.hunted())

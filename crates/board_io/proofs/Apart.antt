@@ -231,7 +231,7 @@ module _ (rule : Rule) (b : Board) (v : ClockedBoard) (at s t x : ℕ) (is : clo
       ∙ ap (λ (p : ℕ × Timer16). let c : Board = record (caught_up s t b) { t3 = p.1 } in let g : Result (ℕ × Board) StopCause = Ok (p.0, c) in g) e)
 
 -- ---- writes
-abbrev PutApart : Board → ℕ → ℕ → Result Board StopCause → Result Board StopCause → Type 0
+abbrev pub PutApart : Board → ℕ → ℕ → Result Board StopCause → Result Board StopCause → Type 0
 PutApart b s n (Ok c) late = (late ≡ Ok (timers_leap s n c)) × IsLike b c
 PutApart b s n (Err cause) late = late ≡ Err cause
 
@@ -303,17 +303,25 @@ write_late rule at x t r b c w v now new h =
     subst (λ (d : Board). IsPut (put_in rule v at x) v r (clocked t d)) (sym new)
     (subst (λ (d : ClockedBoard). IsPut (put_in rule d at x) d r (clocked t c)) now (put_clocked rule (clocked t b) at x r c h))
 
-module _ (rule : Rule) (b : Board) (at x s t : ℕ) (e : is_plain_write rule at ≡ true) where
+module _ (rule : Rule) (b : Board) (at x s t : ℕ) (apart : PutApart b s (t - s) (put_by t rule b at x) (put_by t rule (caught_up s t b) at x)) where
   done : (g : Result Board StopCause) → put_by t rule b at x ≡ g → PutApart b s (t - s) g (put_by t rule (caught_up s t b) at x)
-  done g h = subst (λ r. PutApart b s (t - s) r (put_by t rule (caught_up s t b) at x)) h (put_apart t rule b at x s (t - s) e)
+  done g h = subst (λ r. PutApart b s (t - s) r (put_by t rule (caught_up s t b) at x)) h apart
 
   write_now : (r : Result (Unit {0}) StopCause) (c : Board) → IsPut (put_by t rule b at x) b r c → IsPut (put_by t rule (caught_up s t b) at x) (caught_up s t b) r (caught_up s t c)
   write_now (Ok u) c h = (done (Ok c) h).0
   write_now (Err cause) c h = (done (Err cause) h.0, ap (caught_up s t) h.1)
 
+  pub write_apart : (r : Result (Unit {0}) StopCause) (c : Board) (v : ClockedBoard) → clocked t (caught_up s t b) ≡ v → IsPut (put_by t rule b at x) b r c → IsPut (put_in rule v at x) v r (clocked t (caught_up s t c))
+  write_apart r c v is h = write_late rule at x t r (caught_up s t b) (caught_up s t c) (caught_up s t c) v is refl (write_now r c h)
+
+  pub write_ahead_apart : (r : Result (Unit {0}) StopCause) (a : Forecast) (c : Board) → IsPut (put_by t rule b at x) b r c → IsAhead a t b → IsAhead a t c
+  write_ahead_apart (Ok u) a c h k = like_ahead a t b c (done (Ok c) h).1 k
+  write_ahead_apart (Err cause) a c h k = subst (IsAhead a t) (sym h.1) k
+
+-- so is one that moves no event, leaves the lines, and what may end
+module _ (rule : Rule) (b : Board) (at x s t : ℕ) (e : is_plain_write rule at ≡ true) where
   pub write_by : (r : Result (Unit {0}) StopCause) (c : Board) (v : ClockedBoard) → clocked t (caught_up s t b) ≡ v → IsPut (put_by t rule b at x) b r c → IsPut (put_in rule v at x) v r (clocked t (caught_up s t c))
-  write_by r c v is h = write_late rule at x t r (caught_up s t b) (caught_up s t c) (caught_up s t c) v is refl (write_now r c h)
+  write_by r c v is h = write_apart rule b at x s t (put_apart t rule b at x s (t - s) e) r c v is h
 
   pub write_ahead_by : (r : Result (Unit {0}) StopCause) (a : Forecast) (c : Board) → IsPut (put_by t rule b at x) b r c → IsAhead a t b → IsAhead a t c
-  write_ahead_by (Ok u) a c h k = like_ahead a t b c (done (Ok c) h).1 k
-  write_ahead_by (Err cause) a c h k = subst (IsAhead a t) (sym h.1) k
+  write_ahead_by r a c h k = write_ahead_apart rule b at x s t (put_apart t rule b at x s (t - s) e) r a c h k

@@ -1,11 +1,11 @@
 -- Where a register enables no interrupt, no line of its sources is set.
-use Rattle.std.proofs.Common.{◌≡◌, ℕ, ◌+◌, ◌&&◌, Bool, true, false, refl, sym, ap, ◌∙◌, ◌==◌, not, is_some}
+use Rattle.std.proofs.Common.{◌≡◌, ℕ, ◌+◌, ◌&&◌, Bool, true, false, refl, sym, ap, ◌∙◌, ◌==◌, not, is_some, arith}
 use Rattle.std.specs.Prelude.{bit_and}
 use Rattle.std.proofs.lemmas.Bool.{eqb-true}
 use Rattle.std.proofs.lemmas.Nat.{and_assoc}
 use Rattle.board_io.specs.declared.board.Board.{Board}
 use Rattle.board_io.specs.Board.{kept_at}
-use Rattle.board_io.specs.Lines.{extended_timer_lines, line, port_lines, timer_lines}
+use Rattle.board_io.specs.Lines.{extended_timer_lines, line, port_lines, timer_0_lines, timer_1_lines, timer_2_lines, timer_lines}
 use Rattle.board_io.specs.Names.{ETIMSK, OCIE0, OCIE1A, OCIE1B, OCIE1C, OCIE2, OCIE3A, OCIE3B, OCIE3C, TIMER0_COMP, TIMER0_OVF, TIMER1_COMPA, TIMER1_COMPB, TIMER1_COMPC, TIMER1_OVF, TIMER2_COMP, TIMER2_OVF, TIMER3_COMPA, TIMER3_COMPB, TIMER3_COMPC, TIMER3_OVF, TIMSK, TOIE0, TOIE1, TOIE2, TOIE3, SPI_STC, USART0_RX, USART0_TX, USART0_UDRE}
 use Rattle.device_base.specs.Bits.{any_bit}
 use Rattle.serial_ports.specs.Spi.{asks_interrupt}
@@ -42,6 +42,27 @@ none_of byte mask part e zero off =
     let nothing : bit_and byte mask ≡ 0 = eqb-true (bit_and byte mask) 0 (not_false (bit_and byte mask == 0) off) in
     let same : bit_and byte part ≡ 0 = ap (bit_and byte) (sym e) ∙ (sym (and_assoc part byte mask) ∙ (ap (λ k. bit_and k part) nothing ∙ zero)) in
     rw same refl
+
+-- so no line of a timer is set whose interrupts are not enabled
+pub no_lines_0 : (enabled : ℕ) (b : Board) → any_bit enabled 0x03 ≡ false → timer_0_lines enabled b ≡ 0
+no_lines_0 enabled b e =
+    λ i. off TIMER0_COMP b.t0.ocf_a _ (none_of enabled 0x03 OCIE0 refl refl e) i + off TIMER0_OVF b.t0.tov _ (none_of enabled 0x03 TOIE0 refl refl e) i
+
+pub no_lines_1 : (enabled : ℕ) (b : Board) → any_bit enabled 0x1C ≡ false → timer_1_lines enabled b ≡ 0
+no_lines_1 enabled b e =
+    λ i. off TIMER1_COMPA b.t1.flags.ocf_a _ (none_of enabled 0x1C OCIE1A refl refl e) i + off TIMER1_COMPB b.t1.flags.ocf_b _ (none_of enabled 0x1C OCIE1B refl refl e) i
+    + off TIMER1_OVF b.t1.flags.tov _ (none_of enabled 0x1C TOIE1 refl refl e) i
+
+pub no_lines_2 : (enabled : ℕ) (b : Board) → any_bit enabled 0xC0 ≡ false → timer_2_lines enabled b ≡ 0
+no_lines_2 enabled b e =
+    λ i. off TIMER2_COMP b.t2.ocf_a _ (none_of enabled 0xC0 OCIE2 refl refl e) i + off TIMER2_OVF b.t2.tov _ (none_of enabled 0xC0 TOIE2 refl refl e) i
+
+-- and those of all are added up
+added : (a b c d e f g : ℕ) → a + b + (c + d + e) + (f + g) ≡ a + b + c + d + e + f + g
+added a b c d e f g = omega arith
+
+pub timer_lines_by : (b : Board) → timer_2_lines (kept_at TIMSK b) b + timer_1_lines (kept_at TIMSK b) b + timer_0_lines (kept_at TIMSK b) b ≡ timer_lines b
+timer_lines_by b = added _ _ _ _ _ _ _
 
 down : (word : ℕ) (flag : Bool) → flag ≡ false → line word flag true ≡ 0
 unfolding line

@@ -24,6 +24,12 @@ pub mod Beside
 -- A write of SPDR where the serial peripheral interface asks for no interrupt: of what is known of the board, only its
 -- next end changes.
 pub mod Sent
+-- A write of UDR0 where room for a byte to send asks for no interrupt: of what is known of the board, only its next end
+-- changes.
+pub mod Posted
+-- A write of a timer that stands, before it and after it, is the same on a board whose timers lag, and leaves what is
+-- known of it.
+pub mod Standing
 -- What serving an interrupt and a write of TIFR or ETIFR do to a board whose timers lag: they clear flags, now as well
 -- as later.
 pub mod Served

@@ -39,6 +39,14 @@ quiet_too t b c same quiet none =
     let s = sym (end_at c.spi.shift_register t) ∙ none in
     rw (same, frame, s) refl
 
+-- of one that has the same serial peripheral interface
+pub quiet_beside : (t : ℕ) (b c : Board) → c.spi ≡ b.spi → board_quiet t b ≡ true → is_at (end_of c.usart.shift_register) t ≡ false → board_quiet t c ≡ true
+unfolding board_quiet
+quiet_beside t b c same quiet none =
+    let transfer = (and_parts (not (is_end b.usart.shift_register t)) (not (is_end b.spi.shift_register t)) quiet).1 in
+    let s = sym (end_at c.usart.shift_register t) ∙ none in
+    rw (same, transfer, s) refl
+
 -- ---- flags
 pub halted_8 : (t n : ℕ) (tm : Timer8) → tm.select ≡ 0 → timer8.flags_of (cycles timer8.timer_cycle t n tm) ≡ timer8.flags_of tm
 halted_8 t n tm e = ap timer8.flags_of (clocks8.cycles-stopped t n tm e)
@@ -72,7 +80,7 @@ pub before_16 : (t w n : ℕ) (tm : Timer16) → First (timer16.sets_flag_at t t
 before_16 t w n tm first le = clocks16.flags-until t n tm (λ i l. first.1 i (omega arith))
 
 -- ---- lines
-lines_by : (b : Board) (t0 t2 : Timer8) (t1 t3 : Timer16) → timer8.flags_of t0 ≡ timer8.flags_of b.t0 → t1.flags ≡ b.t1.flags → timer8.flags_of t2 ≡ timer8.flags_of b.t2 → t3.flags ≡ b.t3.flags
+pub lines_by : (b : Board) (t0 t2 : Timer8) (t1 t3 : Timer16) → timer8.flags_of t0 ≡ timer8.flags_of b.t0 → t1.flags ≡ b.t1.flags → timer8.flags_of t2 ≡ timer8.flags_of b.t2 → t3.flags ≡ b.t3.flags
     → lines_of (let c : Board = record b { t0 = t0; t1 = t1; t2 = t2; t3 = t3 } in c) ≡ lines_of b
 unfolding lines_of
 lines_by b t0 t2 t1 t3 e0 e1 e2 e3 =

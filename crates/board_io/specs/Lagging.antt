@@ -3,7 +3,7 @@
 -- timers. Until `steady` no timer sets a flag, be it set already or not: so none passes its top, and a flag can be cleared
 -- before the cycles that are made up for. Its clock may be past `next`: whoever moved it there knew that no flag changes
 -- before.
-use Rattle.std.specs.Prelude.{◌≡◌, ℕ, ◌+◌, ◌-◌, ◌<◌, ◌≤◌, ◌==◌, ◌&&◌, not, Bool, true, false, Ok}
+use Rattle.std.specs.Prelude.{◌≡◌, ℕ, ◌+◌, ◌-◌, ◌%◌, ◌<◌, ◌≤◌, ◌==◌, ◌&&◌, not, Bool, true, false, Ok}
 use Rattle.air_base.specs.Bounds.{LAST_CYCLE}
 use Rattle.board_io.specs.declared.board.Board.{Board}
 use Rattle.board_io.specs.declared.clocked.ClockedBoard.{ClockedBoard}
@@ -17,7 +17,9 @@ use Rattle.board_io.specs.Passing.{changes_flag_at, sets_flag_at}
 use Rattle.board_io.specs.declared.rules.Rule.{Rule}
 use Rattle.board_io.specs.declared.rules.Rule.TheVariants.{Reserved, Pin, Kept, Guarded, WatchdogControl, ResetFlags, CpuControl, TimerFlags, ExtendedTimerFlags, Timer0, Timer1, Timer2, Timer3, Usart0, Spi}
 use Rattle.avr_timers.specs.declared.registers16.Reg16.{Reg16}
-use Rattle.avr_timers.specs.declared.registers16.Reg16.TheVariants.{CountH, IcrH, CompH}
+use Rattle.avr_timers.specs.declared.registers16.Reg16.TheVariants.{ControlB, CountH, IcrH, CompH}
+use Rattle.avr_timers.specs.declared.registers8.Reg8.{Reg8}
+use Rattle.avr_timers.specs.declared.registers8.Reg8.TheVariants as reg8
 use Rattle.serial_ports.specs.declared.spi.Spi.{Spi as SpiPort}
 use Rattle.serial_ports.specs.declared.spi_registers.SpiReg.{SpiReg}
 use Rattle.serial_ports.specs.declared.spi_registers.SpiReg.TheVariants as spi
@@ -134,6 +136,24 @@ is_plain_write (Timer2 reg) at = false
 is_plain_write (Timer3 reg) at = is_high reg
 is_plain_write (Usart0 reg) at = false
 is_plain_write (Spi reg) at = false
+
+-- whether a write of a register of a timer that stands leaves it standing: it chooses no clock
+abbrev pub stays_8 : Reg8 → ℕ → Bool
+stays_8 reg8.Control x = x % 8 == 0
+stays_8 reg8.Count x = true
+stays_8 reg8.Compare x = true
+
+abbrev pub stays_16 : Reg16 → ℕ → Bool
+stays_16 ControlB x = x % 8 == 0
+stays_16 _ x = true
+
+-- whether a write by a rule is one of a timer that stands before it and after it
+abbrev pub is_standing : Rule → ℕ → Board → Bool
+is_standing (Timer0 reg) x b = b.t0.select == 0 && stays_8 reg x
+is_standing (Timer1 reg) x b = b.t1.select == 0 && stays_16 reg x
+is_standing (Timer2 reg) x b = b.t2.select == 0 && stays_8 reg x
+is_standing (Timer3 reg) x b = b.t3.select == 0 && stays_16 reg x
+is_standing _ x b = false
 
 -- SPSR has no flag set, and its last read saw none: so a read notes none
 abbrev pub is_unflagged : SpiPort → Bool

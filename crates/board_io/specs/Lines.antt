@@ -23,6 +23,16 @@ timsk b mask = any_bit (kept_at TIMSK b) mask
 abbrev pub etimsk : Board → ℕ → Bool
 etimsk b mask = any_bit (kept_at ETIMSK b) mask
 
+-- the lines of one timer, by the byte of TIMSK
+abbrev pub timer_0_lines : ℕ → Board → ℕ
+timer_0_lines enabled b = line TIMER0_COMP b.t0.ocf_a (any_bit enabled OCIE0) + line TIMER0_OVF b.t0.tov (any_bit enabled TOIE0)
+
+abbrev pub timer_1_lines : ℕ → Board → ℕ
+timer_1_lines enabled b = line TIMER1_COMPA b.t1.flags.ocf_a (any_bit enabled OCIE1A) + line TIMER1_COMPB b.t1.flags.ocf_b (any_bit enabled OCIE1B) + line TIMER1_OVF b.t1.flags.tov (any_bit enabled TOIE1)
+
+abbrev pub timer_2_lines : ℕ → Board → ℕ
+timer_2_lines enabled b = line TIMER2_COMP b.t2.ocf_a (any_bit enabled OCIE2) + line TIMER2_OVF b.t2.tov (any_bit enabled TOIE2)
+
 abbrev pub timer_lines : Board → ℕ
 timer_lines b =
     line TIMER2_COMP b.t2.ocf_a (timsk b OCIE2)

@@ -183,11 +183,13 @@ impl LaggingBoard {
         if self.leap_whole(cycle, n) {
             return true;
         }
-        // most often a transfer's end is what comes
-        if self.held.board.may_end_before(cycle + u64::from(n)) {
-            return false;
-        }
         self.leap_over_flags(cycle, n)
+    }
+
+    /// Whether a transfer may end before a cycle. Nothing rests on it: it saves a look ahead.
+    #[inline(always)]
+    pub fn may_end_before(&self, cycle: u64) -> bool {
+        self.held.board.may_end_before(cycle)
     }
 
     // The same where a timer may set a flag in them.

@@ -6,7 +6,7 @@ ghost use Rattle.avr_timers.specs.Registers16 as reg16;
 ghost use Rattle.avr_timers.specs.Registers8 as reg8;
 ghost use Rattle.avr_timers.specs.Timer16 as timer16;
 ghost use Rattle.avr_timers.specs.Timer8 as timer8;
-ghost use Rattle.board_io.specs.Lagging.{ReadsStill, is_flags, is_high, is_spdr, is_still_port, is_still_read, is_udr, is_plain_read, is_plain_write, leaves_timers};
+ghost use Rattle.board_io.specs.Lagging.{ReadsStill, is_flags, is_high, is_spdr, is_standing, is_still_port, is_still_read, is_udr, is_plain_read, is_plain_write, leaves_timers, stays_8, stays_16};
 ghost use Rattle.board_io.specs.Table.{rule_of};
 ghost use Rattle.serial_ports.specs.Usart.{lines_of as usart_lines};
 
@@ -104,6 +104,35 @@ fn is_plain_write(rule: Rule, at: u8) -> bool
     }
 }
 
+// Whether a write of a register of a timer of eight bits that stands leaves it standing: it chooses no clock.
+#[inline]
+fn stays_8(reg: Reg8, x: u8) -> bool
+    ensures { result ≡ stays_8 reg x }
+{
+    match reg {
+        Reg8::Control => x % 8 == 0,
+        Reg8::Count | Reg8::Compare => true,
+    }
+}
+
+// The same of a timer of sixteen bits.
+#[inline]
+fn stays_16(reg: Reg16, x: u8) -> bool
+    ensures { result ≡ stays_16 reg x }
+{
+    match reg {
+        Reg16::ControlB => x % 8 == 0,
+        Reg16::ControlA
+        | Reg16::ControlC
+        | Reg16::CountL
+        | Reg16::CountH
+        | Reg16::IcrL
+        | Reg16::IcrH
+        | Reg16::CompL(_)
+        | Reg16::CompH(_) => true,
+    }
+}
+
 // Whether a read of a register of the serial peripheral interface changes nothing. A read of SPSR notes the flags that
 // are set.
 fn is_still_port(reg: SpiReg, port: &Spi) -> bool
@@ -148,6 +177,38 @@ impl Board {
         self.usart.lines().rxc
     }
 
+    // Whether room for a byte to send asks for an interrupt.
+    #[inline]
+    fn asks_for_a_write(&self) -> bool
+        ensures { result ≡ (usart_lines self.now.usart).udre }
+    {
+        self.usart.lines().udre
+    }
+
+    // Whether a write by a rule is one of a timer that stands before it and after it, and so moves no event.
+    #[inline]
+    fn is_standing(&self, rule: Rule, x: u8) -> bool
+        ensures { result ≡ is_standing rule x self.now }
+    {
+        match rule {
+            Rule::Timer0(reg) => (self.t0.select == 0) & stays_8(reg, x),
+            Rule::Timer1(reg) => (self.t1.select == 0) & stays_16(reg, x),
+            Rule::Timer2(reg) => (self.t2.select == 0) & stays_8(reg, x),
+            Rule::Timer3(reg) => (self.t3.select == 0) & stays_16(reg, x),
+            Rule::Reserved
+            | Rule::Pin(_)
+            | Rule::Kept(_)
+            | Rule::Guarded(..)
+            | Rule::WatchdogControl
+            | Rule::ResetFlags
+            | Rule::CpuControl
+            | Rule::TimerFlags
+            | Rule::ExtendedTimerFlags
+            | Rule::Usart0(_)
+            | Rule::Spi(_) => false,
+        }
+    }
+
     // Whether a read by a rule changes nothing, and gives the same as long as the timers alone move.
     fn reads_still(&self, rule: Rule) -> bool
         ensures { result ≡ is_still_read rule self.now }
@@ -175,6 +236,7 @@ impl Board {
 impl LaggingBoard {
     /// Whether a load at a data address below 0x0100 changes nothing, and gives the same byte in each cycle before the
     /// next event.
+    #[inline(always)]
     pub fn reads_still(&self, at: u16) -> bool
         ensures { result ≡ true → ReadsStill self.now.board at }
     {
@@ -358,7 +420,7 @@ impl LaggingBoard {
         match rule {
             Rule::Usart0(_) | Rule::Spi(_) | Rule::Kept(_) => self.put_port(rule, low, x),
             Rule::TimerFlags | Rule::ExtendedTimerFlags => self.put_flags(rule, low, x),
-            _ => self.put_and_look_ahead(rule, low, x),
+            _ => self.put_timer(rule, low, x),
         }
     }
 
@@ -383,7 +445,40 @@ impl LaggingBoard {
         put
     }
 
+    // A write of UDR0: where room for a byte asks for no interrupt, it asks for none after the write, but what may end is
+    // the frame that it begins.
+    #[inline(never)]
+    fn put_udr(&mut self, at: u16, x: u8) -> Result<(), StopCause>
+        requires listed { at ≤ 0x9F }
+        requires rule { rule_of at ≡ Rule.Usart0 UsartReg.Udr }
+        ensures { IsPut (put_in (rule_of at) self.old at x) self.old result self.new }
+    {
+        if self.held.board.asks_for_a_write() {
+            return self.put_beside(at, x);
+        }
+        let put = self.held.board.put_udr(self.held.clock, at as u8, x);
+        let clock = self.held.clock.get();
+        let most = self.ahead.next.saturating_sub(clock);
+        let calm = cycles_before(self.held.board.usart.next_event(), clock, most);
+        let next = clock + calm;
+        self.ahead.next = next;
+        self.ahead.clear = clear_until(self.ahead.lines, next);
+        put
+    }
+
+    // A write that may move a timer's event: it moves none where the timer stands, before it and after it.
+    #[inline(always)]
+    fn put_timer(&mut self, rule: Rule, at: u8, x: u8) -> Result<(), StopCause>
+        ensures { IsPut (put_in rule self.old at x) self.old result self.new }
+    {
+        if !self.held.board.is_standing(rule, x) {
+            return self.put_and_look_ahead(rule, at, x);
+        }
+        self.held.board.put_by(self.held.clock, rule, at, x)
+    }
+
     // A write of what may move a timer's event, or enables its line.
+    #[inline(never)]
     fn put_and_look_ahead(&mut self, rule: Rule, at: u8, x: u8) -> Result<(), StopCause>
         ensures { IsPut (put_in rule self.old at x) self.old result self.new }
     {
@@ -429,6 +524,7 @@ impl Bus for LaggingBoard {
         match rule {
             Rule::Kept(mask) if low != TIMSK && low != ETIMSK => self.put_kept(mask, low, b),
             Rule::Spi(SpiReg::Spdr) => self.put_spdr(at, b),
+            Rule::Usart0(UsartReg::Udr) => self.put_udr(at, b),
             _ if is_plain_write(rule, low) => self.put_plain(rule, low, b),
             _ => self.put_beside(at, b),
         }

@@ -17,6 +17,13 @@ use device_base::names::SPIE;
 // The bits of UCSR0B that enable the interrupts of USART0: RXCIE0, TXCIE0 and UDRIE0.
 const USART_ENABLES: u8 = 0xE0;
 
+// The bits of TIMSK that enable those of each timer.
+const TIMER_0_ENABLES: u8 = 0x03;
+
+const TIMER_1_ENABLES: u8 = 0x1C;
+
+const TIMER_2_ENABLES: u8 = 0xC0;
+
 // Each flag by itself.
 const OVER: TimerFlags = TimerFlags {
     tov: true,
@@ -78,10 +85,53 @@ fn served_flag(v: Vector) -> TimerFlags
 }
 
 impl Board {
-    ghost use Rattle.board_io.specs.Lines.{entered_of, extended_timer_lines, lines_of, port_lines, timer_lines};
+    ghost use Rattle.board_io.specs.Lines.{entered_of, extended_timer_lines, lines_of, port_lines, timer_0_lines, timer_1_lines, timer_2_lines, timer_lines};
 
-    // The lines of TIMSK. In much firmware none is enabled.
-    #[tactic(auto, using(crate::proofs::Enabled::no_timer_lines))]
+    // The lines of timer 0, by the byte of TIMSK.
+    #[inline]
+    #[tactic(auto, using(crate::proofs::Enabled::no_lines_0))]
+    fn timer_0_lines(&self, enabled: u8) -> u64
+        ensures value { result ≡ timer_0_lines enabled self.now }
+        ensures most { result ≤ 2 ^ 30 }
+    {
+        if !any_bit(enabled, TIMER_0_ENABLES) {
+            return 0;
+        }
+        line(TIMER0_COMP, self.t0.ocf_a, any_bit(enabled, OCIE0))
+            + line(TIMER0_OVF, self.t0.tov, any_bit(enabled, TOIE0))
+    }
+
+    // The lines of timer 1, by the byte of TIMSK.
+    #[inline]
+    #[tactic(auto, using(crate::proofs::Enabled::no_lines_1))]
+    fn timer_1_lines(&self, enabled: u8) -> u64
+        ensures value { result ≡ timer_1_lines enabled self.now }
+        ensures most { result ≤ 2 ^ 31 }
+    {
+        if !any_bit(enabled, TIMER_1_ENABLES) {
+            return 0;
+        }
+        line(TIMER1_COMPA, self.t1.flags.ocf_a, any_bit(enabled, OCIE1A))
+            + line(TIMER1_COMPB, self.t1.flags.ocf_b, any_bit(enabled, OCIE1B))
+            + line(TIMER1_OVF, self.t1.flags.tov, any_bit(enabled, TOIE1))
+    }
+
+    // The lines of timer 2, by the byte of TIMSK.
+    #[inline]
+    #[tactic(auto, using(crate::proofs::Enabled::no_lines_2))]
+    fn timer_2_lines(&self, enabled: u8) -> u64
+        ensures value { result ≡ timer_2_lines enabled self.now }
+        ensures most { result ≤ 2 ^ 30 }
+    {
+        if !any_bit(enabled, TIMER_2_ENABLES) {
+            return 0;
+        }
+        line(TIMER2_COMP, self.t2.ocf_a, any_bit(enabled, OCIE2))
+            + line(TIMER2_OVF, self.t2.tov, any_bit(enabled, TOIE2))
+    }
+
+    // The lines of TIMSK. In much firmware none is enabled, and in most only those of one timer.
+    #[tactic(auto, using(crate::proofs::Enabled::no_timer_lines, crate::proofs::Enabled::timer_lines_by))]
     fn timer_lines(&self) -> u64
         ensures value { result ≡ timer_lines self.now }
         ensures most { result ≤ 2 ^ 32 }
@@ -90,13 +140,7 @@ impl Board {
         if enabled == 0 {
             return 0;
         }
-        line(TIMER2_COMP, self.t2.ocf_a, any_bit(enabled, OCIE2))
-            + line(TIMER2_OVF, self.t2.tov, any_bit(enabled, TOIE2))
-            + line(TIMER1_COMPA, self.t1.flags.ocf_a, any_bit(enabled, OCIE1A))
-            + line(TIMER1_COMPB, self.t1.flags.ocf_b, any_bit(enabled, OCIE1B))
-            + line(TIMER1_OVF, self.t1.flags.tov, any_bit(enabled, TOIE1))
-            + line(TIMER0_COMP, self.t0.ocf_a, any_bit(enabled, OCIE0))
-            + line(TIMER0_OVF, self.t0.tov, any_bit(enabled, TOIE0))
+        self.timer_2_lines(enabled) + self.timer_1_lines(enabled) + self.timer_0_lines(enabled)
     }
 
     // The lines of ETIMSK. In most firmware none is enabled.
@@ -134,6 +178,7 @@ impl Board {
 
     /// The interrupt lines: bit n is set exactly where the vector at word address 2n has a source whose flag and whose
     /// enable bit are set.
+    #[inline(always)]
     #[tactic(auto, unfolding(crate::specs::Lines::lines_of))]
     pub fn lines(&self) -> Lines
         ensures { result ≡ lines_of self.now }

@@ -164,6 +164,7 @@ impl Board {
 
     /// For how many cycles from `cycle` on, of at most `most`, each begins with the lines of now, where the timers
     /// alone move: up to the first cycle in which a timer sets a flag, and with it. At least one.
+    #[inline(always)]
     pub fn same_lines(&self, cycle: u64, most: u64) -> u64
         requires { cycle ≤ LAST_CYCLE }
         ensures within { result ≤ most }

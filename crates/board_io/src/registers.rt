@@ -10,7 +10,7 @@ use crate::{Board, Clock};
 use avr_base::StopCause;
 use avr_timers::TimerFlags;
 use device_base::{any_bit, bit};
-use serial_ports::SpiReg;
+use serial_ports::{SpiReg, UsartReg};
 
 // The reset flags of MCUCSR.
 const RESET_FLAGS: u8 = 0x1F;
@@ -163,6 +163,14 @@ impl Board {
         ensures { IsPut (put_by clock (Rule.Spi SpiReg.Spdr) self.old at x) self.old result self.new }
     {
         self.spi.put(clock.get(), SpiReg::Spdr, x)
+    }
+
+    /// A write of UDR0 in the cycle of the clock.
+    #[inline(always)]
+    pub(crate) fn put_udr(&mut self, clock: Clock, at: u8, x: u8) -> Result<(), StopCause>
+        ensures { IsPut (put_by clock (Rule.Usart0 UsartReg.Udr) self.old at x) self.old result self.new }
+    {
+        self.usart.put(clock.get(), UsartReg::Udr, x)
     }
 
     /// A write, in the cycle of the clock, of the register at a data address below 0x0100, by its rule.

@@ -22,7 +22,7 @@ use Rattle.node_places.specs.declared.Place.{Place}
 use Rattle.node_places.specs.declared.Spot.{Spot}
 use Rattle.node_places.specs.declared.Spot.TheVariants as spot
 use Rattle.fleet_flight.specs.Alone.{alone}
-use Rattle.fleet_flight.specs.Shadows.{AreBytes, Goes, IsShadow, IsSpot, Ticks, seen_along, seen_first, seen_of_all}
+use Rattle.fleet_flight.specs.Shadows.{AreBytes, AreGrouped, Goes, IsShadow, IsSpot, Ticks, seen_along, seen_first, seen_of_all}
 use Rattle.fleet_flight.specs.declared.shadow.Shadow.{Shadow}
 use Rattle.std.specs.List.{All}
 use Rattle.fleet_flight.specs.Watched.{byte_at, byte_of, no_place, seen_at, seen_by, seen_from}
@@ -141,7 +141,7 @@ module _ (h : ℕ → Heard) (ps : List Place) where
       (λ x. seen_by ps (q x) (alone_add node_kind h t n i s x) (next x))))
 
 -- what a cycle shows of a byte that it leaves, and of an instruction that does not begin
-same_byte : (a b : ℕ) → a ≡ b → not (a == b) ≡ false
+pub same_byte : (a b : ℕ) → a ≡ b → not (a == b) ≡ false
 same_byte a b e = grind (arith, nat_tests)
 
 none_seen : (x : Spot) (t k : ℕ) (s u : NodeState) → ((at : ℕ) → byte_at at u ≡ byte_at at s) → begins s ≡ false → seen_from x t k (byte_of x s) (begun_at s) u ≡ []
@@ -233,8 +233,8 @@ module _ (h : ℕ → Heard) where
       places = places;
     }
 
-    pub rest_shadow : w.node.rows ≡ v.node.rows → w.last ≡ v.last → IsShadow w
-    rest_shadow rows last =
+    pub rest_shadow : w.node.rows ≡ v.node.rows → w.last ≡ v.last → w.sights ≡ v.sights → IsShadow w
+    rest_shadow rows last sights =
         let bytes = rests_bytes v.places.items v.node.cycle n v.node.state v.last.items shadow.bytes in
         let moved = subst (λ (s : NodeState). AreBytes v.places.items s v.last.items) (sym state_there) bytes in
         record {
@@ -242,6 +242,7 @@ module _ (h : ℕ → Heard) where
           rows = rows ∙ shadow.rows;
           bytes = subst (λ (l : List ℕ). AreBytes w.places.items w.node.state l) (sym (ap (λ x. x.items) last))
               (subst (λ (l : List Place). AreBytes l w.node.state v.last.items) (sym (ap (λ x. x.items) places)) moved);
+          grouped = (let there = subst (λ (l : List Place). AreGrouped l v.sights) (sym (ap (λ x. x.items) places)) shadow.grouped in subst (AreGrouped w.places.items) (sym sights) there);
           spots = subst (λ (l : List Place). All (λ p. IsSpot p.spot) l) (sym (ap (λ x. x.items) places)) shadow.spots;
         }
 

@@ -30,5 +30,7 @@ pub mod Sizes
 pub mod Shadowed
 -- What is seen in spans that are joined, and a byte behind the changes that are seen of it.
 pub mod Seen
--- Places at which nothing is seen in a cycle.
+-- Places that are compared one behind another, and those among them at which nothing is seen in a cycle.
 pub mod Quiet
+-- A rest of no cycles.
+pub mod NoRest

@@ -1,13 +1,13 @@
 -- Nodes that run by themselves behind the others, to be watched. These are words of contracts, and no part of what is
 -- seen.
-use Rattle.std.specs.Prelude.{◌≡◌, ℕ, suc, ◌+◌, ◌<◌, ◌≤◌, false, Option, List, [], ◌++◌, length, map, slice_index, slice_index_or}
+use Rattle.std.specs.Prelude.{◌≡◌, ℕ, suc, ◌+◌, ◌-◌, ◌<◌, ◌≤◌, false, Option, List, [], ◌++◌, length, map, slice_index, slice_index_or}
 use Rattle.std.specs.List.{All}
 use Rattle.air_base.specs.Each.{each_below}
 use Rattle.air_base.specs.NodeKind.{ticked}
 use Rattle.air_base.specs.NodeRun.{Timed}
 use Rattle.air_base.specs.declared.air.Heard.{Heard}
 use Rattle.air_base.specs.declared.air.Send.{Send}
-use Rattle.data_space.specs.declared.regions.TheConstants.{SRAM_LAST, SRAM_LEN}
+use Rattle.data_space.specs.declared.regions.TheConstants.{SRAM_LAST, SRAM_LEN, SRAM_START}
 use Rattle.node_core.specs.Cycle.{node_kind}
 use Rattle.node_core.specs.State.{NodeState}
 use Rattle.node_core.specs.declared.row.Row.{Row}
@@ -23,6 +23,7 @@ use Rattle.fleet_flight.specs.Origin.{Origin, flown}
 use Rattle.fleet_flight.specs.Paused.{HasRun, IsPaused}
 use Rattle.fleet_flight.specs.Watched.{Group, byte_of, no_place, seen_by, seen_from}
 use Rattle.fleet_flight.specs.declared.shadow.Shadow.{Shadow}
+use Rattle.fleet_flight.specs.declared.sights.Sights.{Sights}
 
 -- a byte's address is one of the data space
 abbrev pub IsSpot : Spot → Type 0
@@ -42,13 +43,33 @@ seen_first n ps xs begun t u = each_below n (λ j. seen_from (slice_index_or ps 
 abbrev pub seen_of_all : List Place → List ℕ → Option ℕ → ℕ → NodeState → List Change
 seen_of_all ps xs begun t u = seen_first (length ps) ps xs begun t u
 
--- in a cycle that ends in state u nothing is seen at a place of which this was looked at before it
-pub record IsQuietAt (p : Place) (was : ℕ) (begun : Option ℕ) (u : NodeState) : Type 0 where
-  pub none : (t : ℕ) → seen_from p.spot t p.node was begun u ≡ []
-  pub byte : was ≡ byte_of p.spot u
+-- the first n of these places are compared in such a cycle: what is seen of them stands behind the changes cs, and of them
+-- what is looked at is as it is then, of the others as it was
+pub record Compared (ps : List Place) (xs : List ℕ) (begun : Option ℕ) (t : ℕ) (u : NodeState) (cs : List Change) (n : ℕ) (ys : List ℕ) (ds : List Change) : Type 0 where
+  pub count : length ys ≡ length ps
+  pub changes : ds ≡ cs ++ seen_first n ps xs begun t u
+  pub done : (j : ℕ) → j < n → slice_index ys j ≡ byte_of (slice_index_or ps j no_place).spot u
+  pub left : (j : ℕ) → n ≤ j → slice_index ys j ≡ slice_index xs j
 
-abbrev pub AreQuiet : ℕ → List Place → List ℕ → Option ℕ → NodeState → Type 0
-AreQuiet n ps xs begun u = (j : ℕ) → j < n → IsQuietAt (slice_index_or ps j no_place) (slice_index xs j) begun u
+-- where a place stands in the SRAM, or in the flash
+abbrev pub key_of : Spot → ℕ
+key_of (spot.Byte at) = at - SRAM_START
+key_of (spot.At at) = at
+
+-- this byte of the SRAM; the instruction at this address
+abbrev pub IsOfSram : Spot → ℕ → Type 0
+IsOfSram x key = (x ≡ spot.Byte (SRAM_START + key)) × (key < SRAM_LEN)
+
+abbrev pub IsInstruction : Spot → ℕ → Type 0
+IsInstruction x key = x ≡ spot.At key
+
+-- which places are bytes of the SRAM, and which instructions
+pub record AreGrouped (ps : List Place) (g : Sights) : Type 0 where
+  pub count : length g.keys.items ≡ length ps
+  pub order : g.sram ≤ g.at
+  pub within : g.at ≤ length ps
+  pub bytes : (j : ℕ) → g.sram ≤ j → j < g.at → IsOfSram (slice_index_or ps j no_place).spot (slice_index g.keys.items j)
+  pub instructions : (j : ℕ) → g.at ≤ j → j < length ps → IsInstruction (slice_index_or ps j no_place).spot (slice_index g.keys.items j)
 
 -- what node k hears in each cycle, by a record of sends
 abbrev pub ear_of : Topology → List Send → ℕ → ℕ → Heard
@@ -69,6 +90,7 @@ pub record IsShadow (v : Shadow) : Type 0 where
   pub calm : v.node.asking ≡ false
   pub rows : v.node.rows ≡ []
   pub bytes : AreBytes v.places.items v.node.state v.last.items
+  pub grouped : AreGrouped v.places.items v.sights
   pub spots : All (λ p. IsSpot p.spot) v.places.items
 
 -- it went n cycles on from cycle t, v and the changes cs, to w and the changes ds

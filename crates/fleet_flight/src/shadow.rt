@@ -3,11 +3,14 @@ ghost use Rattle.std.specs.Prelude.{◌≡◌, ◌≤◌, ◌<◌, ◌+◌, ◌-
 ghost use Rattle.std.specs.List.{All};
 ghost use Rattle.air_base.specs.Bounds.{LAST_CYCLE};
 ghost use Rattle.world_core.specs.Topology.{IsInside};
+ghost use Rattle.air_base.specs.NodeRun.{Rests};
 ghost use Rattle.node_core.specs.Cycle.{node_kind};
+ghost use Rattle.node_core.specs.Pace.Midway.{OnlyRests};
 ghost use Rattle.fleet_flight.specs.Paused.{HasRun};
 ghost use Rattle.fleet_flight.specs.Shadows.{AreBytes, Goes, IsShadow, IsSpot, Ticks, ear_of, group_of};
 
 use crate::places::{byte_of, compare};
+use crate::sights::{Sights, sights_of};
 use avr_base::NoMemory;
 use node_core::{Node, Reached};
 use node_places::{Change, Place};
@@ -22,6 +25,8 @@ pub struct Shadow {
     pub number: u8,
     /// What of it is watched.
     pub places: Vec<Place>,
+    /// Which of the places are bytes of its SRAM, and which instructions.
+    pub sights: Sights,
     /// What of it is looked at before the next cycle, by place.
     pub last: Vec<u8>,
 }
@@ -33,6 +38,7 @@ impl Drop for Shadow {
             node: _,
             number: _,
             places: _,
+            sights: _,
             last: _,
         } = self;
     }
@@ -68,10 +74,12 @@ impl Shadow {
         ensures group { IfOk result (λ v. group_of v ≡ record { node = number; places = places.items }) }
     {
         let last = bytes_of(alloc, &node, &places)?;
+        let sights = sights_of(alloc, &places)?;
         Ok(Shadow {
             node,
             number,
             places,
+            sights,
             last,
         })
     }
@@ -129,6 +137,7 @@ fn step(
     forget_rows(&mut shadow.node);
     compare(
         &shadow.places,
+        &shadow.sights,
         &mut shadow.last,
         begun,
         cycle,
@@ -136,6 +145,24 @@ fn step(
         changes,
     )?;
     Ok(())
+}
+
+// A rest, up to the cycle `end` at most: none where an instruction begins.
+#[inline]
+fn rest(node: &mut Node, end: u64)
+    requires ahead { node.old.cycle ≤ end }
+    requires early { end ≤ LAST_CYCLE }
+    requires calm { node.old.asking ≡ false }
+    requires going { node.old.state.stop ≡ None }
+    ensures rests { Rests node_kind node.old node.new.cycle node.new }
+    ensures within { node.new.cycle ≤ end }
+    ensures only { OnlyRests node.old.cycle (node.new.cycle - node.old.cycle) node.old.state }
+    ensures rows { node.new.rows ≡ node.old.rows }
+{
+    if node.begun().is_some() {
+        return;
+    }
+    node.rest_until(end);
 }
 
 // A rest, up to the cycle `end` at most, and the cycle behind it where that is before.
@@ -156,7 +183,7 @@ fn turn(
     ensures moves { OnOk result (shadow.old.node.cycle < shadow.new.node.cycle) }
     ensures within { OnOk result (shadow.new.node.cycle ≤ end) }
 {
-    shadow.node.rest_until(end);
+    rest(&mut shadow.node, end);
     if shadow.node.cycle() < end {
         step(shadow, topo, log, changes)?;
         return Ok(());

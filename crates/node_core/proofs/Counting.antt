@@ -13,9 +13,9 @@ use Rattle.avr_decoder.specs.declared.op.Class.TheVariants as class
 use Rattle.avr_decoder.specs.declared.op.Op.{Op}
 use Rattle.avr_decoder.specs.declared.op.Op.TheVariants as op
 use Rattle.arith_step.specs.Bytes.{decremented, subtracted}
-use Rattle.avr_core.specs.ArithShapes.{subtracts_with_carry}
+use Rattle.avr_core.specs.ArithShapes.{subtracts, subtracts_with_carry}
 use Rattle.avr_core.specs.ArithTable.{arith_cpu, arith_done, effect}
-use Rattle.arith_step.specs.Whole.{overflows, signed, with_sign}
+use Rattle.arith_step.specs.Whole.{one_if, overflows, signed, with_carries, with_sign}
 use Rattle.arith_step.specs.Words.{subtracted_word}
 use Rattle.arith_step.proofs.Signs.{decrement_by_signs}
 use Rattle.avr_base.specs.Flags.{C, has_flag, with_flag}
@@ -204,45 +204,95 @@ dec_flags a j s f l =
     sym (decrement_by_signs (a - j) (omega (arith, f))) ∙ (k.1.1 ∙ decrement_by_signs a f) in
     λ i. (r i, (let x : Sreg = record { bits = with_sign (k.0 i) (zero_ i) (v i) s.bits } in x))
 
-module _ (n d e : ℕ) (m : Machine) (from to : Cpu) (h : IsStillStep n m from to) (is : op.Dec d ≡ op_now (shown (let x : Machine = record m { cpu = from } in x)))
-    (other : e ≢ d) (byte : slice_index from.r d < 256) where
-  abbrev value : ℕ
-  value = slice_index from.r d
+-- ---- an instruction on one byte, which leaves the register above
+-- what it makes of the byte and the flags
+abbrev pub stepped : ℕ → (ℕ → Sreg → ℕ × Sreg) → Cpu → Cpu
+stepped d f cpu = record cpu { r = slice_set cpu.r d (f (slice_index cpu.r d) cpu.sreg).0; sreg = (f (slice_index cpu.r d) cpu.sreg).1; pc = (cpu.pc + 1) % 65536 }
 
-  dec_there : (j : ℕ) → j < spared 128 value → with_reg d (value - suc j) (arith_cpu (op.Dec d) from) ≡ arith_cpu (op.Dec d) (with_reg d (value - j) from)
-  unfolding effect
-  dec_there j l =
-      let some = (below_half value j byte l).1.0 in
-      let there : d < length from.r = inside from.r d (omega (arith, some)) in
-      let got : slice_index (slice_set from.r d (value - j)) d ≡ value - j = get_or-set_same from.r d (value - j) 0 there in
-      let x : decremented (slice_index (slice_set from.r d (value - j)) d) from.sreg ≡ (value - suc j, (decremented value from.sreg).1) =
-      ap (λ (k : ℕ). decremented k from.sreg) got ∙ dec_flags value j from.sreg byte l in
-      let r = set-set from.r d (decremented value from.sreg).0 (value - suc j) ∙ (sym (set-set from.r d (value - j) (value - suc j))
-      ∙ ap (λ (y : ℕ × Sreg). slice_set (slice_set from.r d (value - j)) d y.0) (sym x)) in
-      λ i. let c : Cpu = record from { r = r i; sreg = (sym x i).1; pc = (from.pc + 1) % 65536 } in c
+-- it lowers the byte by one, and leaves the same flags, also where that stands up to `spare` lower
+pub record LowersByte (f : ℕ → Sreg → ℕ × Sreg) (a spare : ℕ) (s : Sreg) : Type 0 where
+  pub some : (j : ℕ) → j < spare → j + 1 < a
+  pub gives : (j : ℕ) → j < spare → f (a - j) s ≡ (a - suc j, (f a s).1)
 
-  dec_step : (j : ℕ) → j < spared 128 value → IsStillStep n m (with_reg d (value - j) from) (with_reg d (value - suc j) to)
-  dec_step j l =
-      other_step n m from to h (op.Dec d) is refl (with_reg d (value - j) from) (with_reg d (value - suc j) to) refl
-      (ap (with_reg d (value - suc j)) (came n m from to h (op.Dec d) is refl) ∙ dec_there j l) h.none (settled_as n m from to h (op.Dec d) is)
+module _ (o : Op) (is_arith_ : class_of o ≡ class.Arith) (d : ℕ) (f : ℕ → Sreg → ℕ × Sreg) (does : (c : Cpu) → arith_cpu o c ≡ stepped d f c) where
+  module _ (n e : ℕ) (m : Machine) (from to : Cpu) (h : IsStillStep n m from to) (is : o ≡ op_now (shown (let x : Machine = record m { cpu = from } in x)))
+      (other : e ≢ d) (byte : slice_index from.r d < 256) (spare : ℕ) (lowers_ : LowersByte f (slice_index from.r d) spare from.sreg) where
+    abbrev value : ℕ
+    value = slice_index from.r d
 
-  -- the same of the counter with the register above
-  high_stays : slice_index to.r e ≡ slice_index from.r e
-  unfolding effect
-  high_stays = ap (λ (c : Cpu). slice_index c.r e) (came n m from to h (op.Dec d) is refl) ∙ get_or-set_other from.r d e _ 0 other
+    there : (j : ℕ) → j < spare → with_reg d (value - suc j) (arith_cpu o from) ≡ arith_cpu o (with_reg d (value - j) from)
+    there j l =
+        let some = lowers_.some j l in
+        let stands : d < length from.r = inside from.r d (omega (arith, some)) in
+        let got : slice_index (slice_set from.r d (value - j)) d ≡ value - j = get_or-set_same from.r d (value - j) 0 stands in
+        let x : f (slice_index (slice_set from.r d (value - j)) d) from.sreg ≡ (value - suc j, (f value from.sreg).1) =
+        ap (λ (k : ℕ). f k from.sreg) got ∙ lowers_.gives j l in
+        let r = set-set from.r d (f value from.sreg).0 (value - suc j) ∙ (sym (set-set from.r d (value - j) (value - suc j))
+        ∙ ap (λ (y : ℕ × Sreg). slice_set (slice_set from.r d (value - j)) d y.0) (sym x)) in
+        ap (with_reg d (value - suc j)) (does from)
+        ∙ ((λ i. let c : Cpu = record from { r = r i; sreg = (sym x i).1; pc = (from.pc + 1) % 65536 } in c)
+        ∙ sym (does (with_reg d (value - j) from)))
 
-  at_low : (j : ℕ) (c : Cpu) → slice_index c.r e ≡ slice_index from.r e → j < value → with_reg d (value - j) c ≡ with_counter d e (counter_at d e from - j) c
-  at_low j c same l =
-      let w : ℕ = counter_at d e from - j in
-      let low : w % 256 ≡ value - j = omega (arith, byte, l) in
-      let high : w / 256 ≡ slice_index c.r e = omega (arith, byte, l, same) in
-      ap (λ (k : ℕ). with_reg d k c) (sym low) ∙ sym (low_alone d e other w c high)
+    step : (j : ℕ) → j < spare → IsStillStep n m (with_reg d (value - j) from) (with_reg d (value - suc j) to)
+    step j l =
+        other_step n m from to h o is is_arith_ (with_reg d (value - j) from) (with_reg d (value - suc j) to) refl
+        (ap (with_reg d (value - suc j)) (came n m from to h o is is_arith_) ∙ there j l) h.none (settled_as n m from to h o is)
 
-  pub dec_lowers_it : (j : ℕ) → j < spared 128 value → IsStillStep n m (with_counter d e (counter_at d e from - j) from) (with_counter d e (counter_at d e from - suc j) to)
-  dec_lowers_it j l =
-      let some = (below_half value j byte l).1.0 in
-      subst (λ (c : Cpu). IsStillStep n m c (with_counter d e (counter_at d e from - suc j) to)) (at_low j from refl (omega (arith, some)))
-      (subst (λ (c : Cpu). IsStillStep n m (with_reg d (value - j) from) c) (at_low (suc j) to high_stays (omega (arith, some))) (dec_step j l))
+    -- the same of the counter with the register above
+    high_stays : slice_index to.r e ≡ slice_index from.r e
+    high_stays = ap (λ (c : Cpu). slice_index c.r e) (came n m from to h o is is_arith_ ∙ does from) ∙ get_or-set_other from.r d e _ 0 other
+
+    at_low : (j : ℕ) (c : Cpu) → slice_index c.r e ≡ slice_index from.r e → j < value → with_reg d (value - j) c ≡ with_counter d e (counter_at d e from - j) c
+    at_low j c same l =
+        let w : ℕ = counter_at d e from - j in
+        let low : w % 256 ≡ value - j = omega (arith, byte, l) in
+        let high : w / 256 ≡ slice_index c.r e = omega (arith, byte, l, same) in
+        ap (λ (k : ℕ). with_reg d k c) (sym low) ∙ sym (low_alone d e other w c high)
+
+    pub byte_lowers : (j : ℕ) → j < spare → IsStillStep n m (with_counter d e (counter_at d e from - j) from) (with_counter d e (counter_at d e from - suc j) to)
+    byte_lowers j l =
+        let some = lowers_.some j l in
+        subst (λ (c : Cpu). IsStillStep n m c (with_counter d e (counter_at d e from - suc j) to)) (at_low j from refl (omega (arith, some)))
+        (subst (λ (c : Cpu). IsStillStep n m (with_reg d (value - j) from) c) (at_low (suc j) to high_stays (omega (arith, some))) (step j l))
+
+-- ---- DEC
+dec_does : (d : ℕ) (c : Cpu) → arith_cpu (op.Dec d) c ≡ stepped d decremented c
+unfolding effect
+dec_does d c = refl
+
+dec_gives : (a : ℕ) (s : Sreg) → a < 256 → LowersByte decremented a (spared 128 a) s
+dec_gives a s byte = record {
+  some = λ j l. (below_half a j byte l).1.0;
+  gives = λ j l. dec_flags a j s byte l;
+}
+
+-- ---- SUBI by one, as far as the lower four bits do not come to 0
+-- what it leaves there
+nibble_less : (a : ℕ) (s : Sreg) → a < 256 → 1 < a % 16 → subtracted a 1 false false s ≡ (a - 1, (let u : Sreg = record { bits = with_sign (nat_le 128 (a - 1)) false false (with_carries false false s.bits) } in u))
+unfolding subtracted
+nibble_less a s byte some =
+    let r : (a + 256 - (1 + one_if false)) % 256 ≡ a - 1 = omega (arith, byte, some) in
+    let z : ((a + 256 - (1 + one_if false)) % 256 == 0) ≡ false = grind (arith, byte, some, nat_tests) in
+    let v : overflows 128 (signed 128 a -ℤ signed 128 1 -ℤ pos (one_if false)) ≡ false = grind (arith, ints, nat_tests, byte, some) in
+    let c : nat_lt a (1 + one_if false) ≡ false = grind (arith, some, nat_tests) in
+    let h : nat_lt (a % 16) (1 % 16 + one_if false) ≡ false = grind (arith, some, nat_tests) in
+    λ i. (r i, (let u : Sreg = record { bits = with_sign (nat_le 128 (r i)) (z i) (v i) (with_carries (c i) (h i) s.bits) } in u))
+
+subi_gives : (a : ℕ) (s : Sreg) → a < 256 → LowersByte (λ (x : ℕ) (t : Sreg). subtracted x 1 false false t) a (a % 16 - 1) s
+subi_gives a s byte = record {
+  some = λ j l. omega (arith, l);
+  gives = λ j l. (let first : 1 < a % 16 = omega (arith, l) in
+      let now : 1 < (a - j) % 16 = omega (arith, l) in
+      let on : a - j - 1 ≡ a - suc j = omega arith in
+      let side : nat_le 128 (a - j - 1) ≡ nat_le 128 (a - 1) = (let low : (a - j - 1) / 16 ≡ (a - 1) / 16 = omega (arith, l) in grind (arith, low, nat_tests)) in
+      nibble_less (a - j) s (omega (arith, byte)) now
+      ∙ ((λ i. (on i, (let u : Sreg = record { bits = with_sign (side i) false false (with_carries false false s.bits) } in u)))
+      ∙ ap (λ (y : ℕ × Sreg). (a - suc j, y.1)) (sym (nibble_less a s byte first))));
+}
+
+subi_does : (d : ℕ) (c : Cpu) → arith_cpu (op.Subi d 1) c ≡ stepped d (λ (x : ℕ) (t : Sreg). subtracted x 1 false false t) c
+unfolding effect subtracts
+subi_does d c = refl
 
 -- ---- SBIW by one
 word_flags : (w j : ℕ) (s : Sreg) → w < 65536 → j < spared 32768 w → subtracted_word (w - j) 1 s ≡ (w - suc j, (subtracted_word w 1 s).1)
@@ -286,7 +336,7 @@ module _ (n d : ℕ) (m : Machine) (from to : Cpu) (h : IsStillStep n m from to)
       other_step n m from to h (op.Sbiw d 1) is refl (with_counter d next (pair - j) from) (with_counter d next (pair - suc j) to) refl
       (ap (with_counter d next (pair - suc j)) (came n m from to h (op.Sbiw d 1) is refl) ∙ sbiw_there j l) h.none (settled_as n m from to h (op.Sbiw d 1) is)
 
--- so DEC and SBIW lower it
+-- so DEC, SUBI and SBIW lower it
 module _ (d : ℕ) (from : Cpu) where
   above_other : (d + 1) % 32 ≢ d
   above_other = λ same. absurd (omega (arith, same))
@@ -297,7 +347,16 @@ module _ (d : ℕ) (from : Cpu) where
       subst (IsLowering (op.Dec d) from) (sym same)
       record {
         spare = record { other = above_other; few = grind (arith, nat_tests) };
-        steps = λ m n to fetched h j lt. dec_lowers_it n d ((d + 1) % 32) m from to h fetched above_other byte j lt;
+        steps = λ m n to fetched h j lt. byte_lowers (op.Dec d) refl d decremented (dec_does d) n ((d + 1) % 32) m from to h fetched above_other byte (spared 128 (slice_index from.r d)) (dec_gives (slice_index from.r d) from.sreg byte) j lt;
+      }
+
+  pub subi_lowers : (l : Lowering) → l ≡ (let k : Lowering = record { low = d; high = (d + 1) % 32; spare = slice_index from.r d % 16 - 1 } in k) → slice_index from.r d < 256
+      → IsLowering (op.Subi d 1) from l
+  subi_lowers l same byte =
+      subst (IsLowering (op.Subi d 1) from) (sym same)
+      record {
+        spare = record { other = above_other; few = omega arith };
+        steps = λ m n to fetched h j lt. byte_lowers (op.Subi d 1) refl d (λ (x : ℕ) (t : Sreg). subtracted x 1 false false t) (subi_does d) n ((d + 1) % 32) m from to h fetched above_other byte (slice_index from.r d % 16 - 1) (subi_gives (slice_index from.r d) from.sreg byte) j lt;
       }
 
   pub sbiw_lowers : (l : Lowering) → l ≡ (let k : Lowering = record { low = d; high = (d + 1) % 32; spare = spared 32768 (pair_at d from) } in k)

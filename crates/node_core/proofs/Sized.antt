@@ -1,6 +1,6 @@
 -- The SRAM of a node has as many bytes after a cycle as before.
 use Rattle.std.proofs.Common.{◌≡◌, ℕ, nat_lt, Bool, true, false, cond, Option, Some, None, List, is_some, length, refl, ◌∙◌, length-set}
-use Rattle.std.specs.Prelude.{Result, Ok, Err, slice_set}
+use Rattle.std.specs.Prelude.{Result, Ok, Err}
 use Rattle.avr_base.specs.declared.stop.StopCause.{StopCause}
 use Rattle.avr_base.specs.declared.interrupts.Vector.{Vector}
 use Rattle.air_base.specs.declared.air.Heard.{Heard}

@@ -117,7 +117,7 @@ impl Machine {
         requires awake { self.old.asleep ≡ false }
         ensures state { shown self.new ≡ record (shown self.old) { asleep = done.sleep && is_idle (sleep_mode self.old.bus.io.board) } }
         ensures rows { self.new.rows.items ≡ self.old.rows.items ++ row_within cycle (shown self.old) (kind.Instr pc (word_at self.old.program.bytes pc) (word_at self.old.program.bytes ((pc + 1) % 65536))) }
-        ensures awake { 0 < result → done.sleep ≡ false }
+        ensures awake { 0 < result → self.new.asleep ≡ false }
         ensures cycles { 0 < result → result ≡ done.cycles }
         ensures room { vec_capacity self.new.rows ≡ vec_capacity self.old.rows }
         ensures wait { self.new.wait ≡ self.old.wait }
@@ -126,8 +126,8 @@ impl Machine {
     {
         let told = is_within(self.from, self.to, cycle);
         tell_instruction(&mut self.rows, told, &self.program, pc, cycle, self.number);
-        if done.sleep {
-            self.asleep = is_idle(self.bus.io.sleep_mode());
+        if done.sleep && is_idle(self.bus.io.sleep_mode()) {
+            self.asleep = true;
             return 0;
         }
         done.cycles
@@ -164,7 +164,7 @@ impl Machine {
         is_sleep(op) && is_other(self.bus.io.sleep_mode())
     }
 
-    // The first cycle of an instruction: how many it takes, or 0 where the node stopped or executed SLEEP.
+    // The first cycle of an instruction: how many it takes, or 0 where the node stopped or fell asleep.
     #[inline(always)]
     fn instruct(&mut self, cycle: u64) -> u8
         requires { MayAct cycle self.old }
@@ -229,7 +229,7 @@ impl Machine {
     }
 
     // The processor's part of a cycle in which it neither waits nor sleeps: how many cycles its instruction or its
-    // entry takes, or 0 where the node stopped or executed SLEEP.
+    // entry takes, or 0 where the node stopped or fell asleep.
     #[inline(never)]
     pub fn act(&mut self, cycle: u64) -> u8
         requires { MayAct cycle self.old }

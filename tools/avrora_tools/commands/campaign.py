@@ -210,6 +210,7 @@ def run(arguments: argparse.Namespace) -> int:
     if arguments.scenario:
         return write_one(campaign, arguments)
     campaign.demand_checks(arguments.run_code)
+    campaign.demand_conditions()
     words = sittings.Words(
         arguments.shard,
         arguments.order,

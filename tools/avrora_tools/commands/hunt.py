@@ -14,13 +14,14 @@ from avrora_tools.hunting.hunt import Hunt
 from avrora_tools.hunting.oracles import Oracle
 from avrora_tools.hunting.races import NAME as ARRIVALS
 from avrora_tools.hunting.races import Races
+from avrora_tools.hunting.said import LOOKED_AT
 from avrora_tools.hunting.smaller import OracleOf
 from avrora_tools.hunting.trials import Runner, Scenes, processor_seconds, scenes
 from avrora_tools.hunting.watching import Conditions, WatchingTails
 from avrora_tools.sweeping.cluster import ClusterTails
 from avrora_tools.sweeping.limits import Limit
 from avrora_tools.sweeping.simulation import ProcessTails, Simulator
-from avrora_tools.sweeping.verdicts import CaseCheck, PredicateCheck, nodes_of, predicate_of
+from avrora_tools.sweeping.verdicts import CaseCheck, Compare, PredicateCheck, nodes_of, predicate_of
 
 SUMMARY = "varies a scenario in all ways for some minutes, and tells what breaks it"
 
@@ -53,6 +54,8 @@ def run(arguments: argparse.Namespace) -> int:
         raise BadWords("one of --expect, --check and --always")
     if arguments.always and arguments.scheduler:
         raise BadWords("--always is of runs of this machine")
+    if arguments.processor_minutes and arguments.scheduler:
+        raise BadWords("--processor-minutes are those of this machine: --minutes N with --scheduler")
     document, until = prepared_document(arguments)
     scenario = scenarios.Scenario.load(arguments.scenario)
     known = programs.Programs(arguments.elf, scenario, arguments.force) if arguments.elf else None
@@ -79,9 +82,19 @@ def run(arguments: argparse.Namespace) -> int:
         corpus.clear()
         first = corpus.rounds_of(arguments.seed)
         hunt.run(first, corpus.failed, arguments.rounds, lambda text: print(text, flush=True))
-        telling.print_hunt(hunt, corpus, arguments.scenario, arguments.elf)
+        telling.print_hunt(hunt, corpus, arguments.scenario, check_words(arguments, hunt))
         corpus.write(arguments.seed, hunt.rounds, hunt.failing)
     return Status.NOT_MET if hunt.findings else limit.status(Status.GOOD)
+
+
+def check_words(arguments: argparse.Namespace, hunt: Hunt) -> list[str]:
+    """The words by which `sweep` checks its runs as this hunt does."""
+    if arguments.always:
+        return [word for condition in arguments.always for word in ("--always", condition)]
+    if arguments.expect or arguments.check:
+        return ["--expect", arguments.expect] if arguments.expect else ["--check", arguments.check]
+    has_lines = any(b"\n" in text for text in hunt.reference.texts.values())
+    return ["--compare", (Compare.LINES if has_lines else Compare.ANY_ORDER).value]
 
 
 def limit_of(arguments: argparse.Namespace) -> Limit:
@@ -130,7 +143,8 @@ def tails_of(
         return ProcessTails(simulator, scenes_, arguments.jobs)
     tails = ClusterTails(simulator, scenes_)
     try:
-        tails.connect(arguments.scheduler, shipping.program(arguments.avrora))
+        kinds = () if arguments.expect or arguments.check else LOOKED_AT
+        tails.connect(arguments.scheduler, shipping.program(arguments.avrora), kinds)
     except BaseException as fault:
         tails.__exit__(type(fault), fault, None)
         raise
@@ -190,7 +204,9 @@ def configure(parser: argparse.ArgumentParser) -> None:
         "--jobs", type=cli.positive, default=processors(), metavar="N", help="runs at a time (%(default)s)"
     )
     parser.add_argument(
-        "--scheduler", metavar="ADDRESS", help="run on the workers of a scheduler of dask, as tcp://HOST:8786"
+        "--scheduler",
+        metavar="ADDRESS",
+        help="run on the workers of a scheduler of dask, as tcp://HOST:8786; arrivals are swept here",
     )
     parser.add_argument(
         "--timeout", type=cli.positive, default=300, metavar="S", help="seconds that a run may take (%(default)s)"

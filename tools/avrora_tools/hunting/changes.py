@@ -140,7 +140,7 @@ def change_of(record: dict[str, Any]) -> Change:
     for name, value in record.items():
         if type(value) is not (str if name == "hex" else int):
             raise ValueError(f"{name} is {value!r}")
-        if name == "hex" and not HEX.fullmatch(value):
+        if name == "hex" and not HEX.fullmatch(str(value)):
             raise ValueError("hex is no bytes")
     return form(**record)
 

@@ -4,7 +4,7 @@ import time
 from collections import Counter
 from collections.abc import Callable, Iterator, Sequence
 
-from avrora_tools.hunting.causes import Finding, Lines, Look, look_of
+from avrora_tools.hunting.causes import Finding, Lines, look_of
 from avrora_tools.hunting.waiting import Failing, Waiting
 from avrora_tools.hunting.changes import Document, Trial
 from avrora_tools.hunting.kinds import Facts, Kind, kinds_of
@@ -138,15 +138,20 @@ class Hunt:
     def take_small(self, failing: Failing, tell: Told) -> None:
         before = self.runner.runs
         self.waiting.count_small(failing)
-        found = self.small(failing)
-        found.note(failing.trial.kind, failing.failure)
-        self.merge(found, failing.trial.kind, tell)
+        if found := self.small(failing):
+            found.note(failing.trial.kind, failing.failure)
+            self.merge(found, failing.trial.kind, tell)
+        else:
+            tell(f"a worker of the cluster said what is not so here: {failing.failure.text}")
         self.small_runs += self.runner.runs - before
 
-    def small(self, failing: Failing) -> Finding:
-        """A finding with the smallest scenario that fails as this trial does."""
+    def small(self, failing: Failing) -> Finding | None:
+        """A finding with the smallest scenario that fails as this trial does; none where others made the runs, and it
+        does not fail here."""
         smaller = Smaller(self.runner, self.oracle_of, not self.has_check, self.limit.is_over)
         scene, wrong = smaller.smaller(Scene(self.document, self.until, failing.trial), failing.failure)
+        if self.runner.is_elsewhere and not smaller.made_here(scene):
+            return None
         look = look_of(scene.trial, scene.document, wrong)
         alone, uneven = self.lines.otherwise(scene)
         return Finding(look, wrong, scene, failing.trial, failing.look, lines=alone, uneven=uneven)

@@ -212,7 +212,7 @@ class Races:
         told = [f"{' and '.join(places)}" + (f"; {used}" if used else ""), *filter(None, (ends, parting))]
         event = sweep.scenario.moved[-1].event
         assert isinstance(event, InputByte)
-        command = sweep_command(event, grouping.spans(one.failing)[0])
+        command = sweep_command(event, grouping.spans(one.failing)[0], self.program(event.node).path)
         result = Finding((RACE, failure.class_, *places), failure, places=tuple(told), command=command)
         for cell in one.failing:
             result.note(NAME, Failure(failure.class_, failure.node, sweep.results.failures[cell]))
@@ -248,10 +248,10 @@ def in_rounds(visits: Sequence[Visit]) -> list[Visit]:
     return [visit for *_, visit in sorted(keyed, key=lambda it: it[:3])]
 
 
-def sweep_command(event: InputByte, span: tuple[int, int]) -> str:
+def sweep_command(event: InputByte, span: tuple[int, int], elf: str) -> str:
     """The words of a sweep about a stretch that fails."""
-    words = ["--input", f"{event.node}:{event.index}={span[0] - BEFORE}..{span[1] + BEHIND}"]
-    return shlex.join([*words, *["--alone"] * event.is_alone])
+    words = ["--input", f"{event.node}:{event.index}={max(1, span[0] - BEFORE)}..{span[1] + BEHIND}"]
+    return shlex.join([*words, *["--alone"] * event.is_alone, "-e", elf])
 
 
 def without_byte(document: Document, script: Script) -> Mapping[str, object]:

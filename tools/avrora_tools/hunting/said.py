@@ -7,6 +7,9 @@ SENT = re.compile(rb"^(\d+) (\d+) sent ([0-9A-F]{2})$", re.MULTILINE)
 NO_CLASH = re.compile(rb"^\d+ \d+ heard [01] [^\n]*\n", re.MULTILINE)
 CLASH = re.compile(rb"^\d+ (\d+) heard 2 ", re.MULTILINE)
 
+# The rows that are looked at where no check of the user reads others.
+LOOKED_AT = (b" sent ", b" serial ", b" stop ", b" end ", b" heard 2 ")
+
 
 @dataclass(frozen=True)
 class Burst:

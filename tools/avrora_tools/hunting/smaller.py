@@ -75,6 +75,11 @@ class Smaller:
         failing = outputs[len(unknown) :]
         return [self.judged(scene, self.right[key(scene)], output) for scene, output in zip(scenes, failing)]
 
+    def made_here(self, scene: Scene) -> Failure | None:
+        """How a scene fails by runs of this machine, whoever made those before."""
+        reference = self.reference(scene, self.runner.output(scene.document))
+        return self.judged(scene, reference, self.runner.output(scene.failing()))
+
     def reference(self, scene: Scene, right: bytes) -> Reference | None:
         """The run without the changes, where it is right."""
         reference = Reference(right, scene.until, int(scene.document["cycles"]))

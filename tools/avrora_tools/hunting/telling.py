@@ -1,7 +1,7 @@
 """What a hunt tells, and the scenarios that it writes."""
 import os
 import time
-from collections.abc import Iterable
+from collections.abc import Iterable, Sequence
 
 from avrora_tools import files
 from avrora_tools.hunting.causes import Finding
@@ -20,14 +20,15 @@ from avrora_tools.sweeping.simulation import scenario_text
 MOST_TEXTS, MOST_LINES, MOST_CHANGES = 3, 8, 6
 
 
-def print_hunt(hunt: Hunt, corpus: Corpus, scenario: str, elf: Iterable[str]) -> None:
-    """All that a hunt tells at its end; the scenarios of its findings are written."""
+def print_hunt(hunt: Hunt, corpus: Corpus, scenario: str, check: Sequence[str]) -> None:
+    """All that a hunt tells at its end; the scenarios of its findings are written. `check` are the words by which a
+    sweep checks as the hunt does."""
     print_tried(hunt)
     for number, finding in enumerate(hunt.findings, 1):
         if finding.scene:
             finding.path = corpus.found(number)
             write_scene(finding.path, finding.scene, finding, os.path.dirname(scenario))
-        print_finding(hunt, number, finding, scenario, list(elf))
+        print_finding(hunt, number, finding, scenario, check)
     print(f"not covered: {'; '.join(not_covered(hunt))}", flush=True)
 
 
@@ -45,7 +46,7 @@ def print_tried(hunt: Hunt) -> None:
             print(f"  {name:<10} {hunt.tried[name]:>7,} tried {hunt.failed[name]:>6,} failed")
 
 
-def print_finding(hunt: Hunt, number: int, finding: Finding, scenario: str, elf: list[str]) -> None:
+def print_finding(hunt: Hunt, number: int, finding: Finding, scenario: str, check: Sequence[str]) -> None:
     kinds = ", ".join(f"{name} {count:,}" for name, count in finding.kinds.most_common())
     print(f"{number}. {finding.failure.class_}: {finding.failure.text}")
     needs = f"; {', '.join(filter(None, finding.look[1:]))}" if not finding.places else ""
@@ -63,7 +64,7 @@ def print_finding(hunt: Hunt, number: int, finding: Finding, scenario: str, elf:
         print(f"   runs here alone: {joined(finding.lines[:MOST_LINES])}{others}")
     for pair in finding.uneven:
         print(f"   {pair}")
-    for command in commands(finding, scenario, elf):
+    for command in commands(finding, scenario, check):
         print(f"   {command}")
 
 
@@ -86,11 +87,10 @@ def print_scene(hunt: Hunt, scene: Scene) -> None:
         print(f"     and {changes - MOST_CHANGES} changes more")
 
 
-def commands(finding: Finding, scenario: str, elf: list[str]) -> list[str]:
+def commands(finding: Finding, scenario: str, check: Sequence[str]) -> list[str]:
     """The lines of a shell that open a finding."""
-    words = [word for it in elf for word in ("-e", it)]
     if finding.command:
-        swept = f"avrora-tools sweep {shell_word(scenario)} {finding.command} {shell_line(words)}"
+        swept = f"avrora-tools sweep {shell_word(scenario)} {finding.command} {shell_line(check)}"
         found = [swept.rstrip(), finding.opened]
         if not finding.scene:
             return found

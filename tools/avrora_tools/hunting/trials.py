@@ -4,6 +4,7 @@ import resource
 from collections.abc import Callable, Iterator, Sequence
 
 from avrora_tools.hunting.changes import Document, Trial
+from avrora_tools.sweeping.cluster import ClusterTails
 from avrora_tools.sweeping.events import LinkLatency, Move, Moved, MovedScenario, Span
 from avrora_tools.sweeping.simulation import NO_WINDOW, ProcessTails
 
@@ -46,6 +47,11 @@ class Runner:
         self.runs += 1
         self.scenes.documents[:] = [document]
         return self.rows(self.tails.output((0,)))
+
+    @property
+    def is_elsewhere(self) -> bool:
+        """Whether others make the runs."""
+        return isinstance(self.tails, ClusterTails)
 
     def tried(self, document: Document, trials: Sequence[Trial]) -> Iterator[tuple[Trial, bytes]]:
         """The rows of each trial."""

@@ -19,6 +19,20 @@ from avrora_tools.programs import Programs
 from avrora_tools.scenarios import Scenario
 
 
+def parts_of(word: str) -> tuple[str, str]:
+    """What an `elf` of a case says: NODES, or nothing, and FILE."""
+    nodes, _, path = word.rpartition("=")
+    return nodes, path
+
+
+def beside(case: Case, word: str) -> str:
+    """A word for a program, which is sought from the folder of its case."""
+    nodes, path = parts_of(word)
+    path = os.path.join(case.folder, path)
+    files.refuse_endless(path)
+    return f"{nodes}={path}" if nodes else path
+
+
 @dataclass
 class Follower:
     """Follows whether a condition holds, and notes where what is stated of it is decided."""
@@ -55,22 +69,23 @@ class Follower:
 
 
 class Observer:
-    """Judges the conditions of a case over the run that it names."""
+    """Judges the conditions of a case over a run."""
 
-    def __init__(self, case: Case, simulator: str) -> None:
-        """Raises BadInput, with the line, where a condition is none of the nodes' programs."""
-        self.case, self.simulator = case, simulator
+    def __init__(self, case: Case, simulator: str, path: str, scenario: Scenario, network: Network) -> None:
+        """The run is that of the scenario in the file `path`. Raises BadInput, with the line, where a condition is none
+        of the nodes' programs."""
+        self.case, self.simulator, self.path = case, simulator, path
+        self.scenario, self.network = scenario, network
         self.name = files.shown(case.path)
-        self.path = os.path.join(case.folder, (case.source or ("", ""))[1])
-        self.scenario = Scenario.load(self.path)
-        for word in case.elfs:
-            files.refuse_endless(os.path.join(case.folder, word.rpartition("=")[2]))
-        self.network = Network(self.scenario, Programs([self.beside(word) for word in case.elfs], self.scenario))
         self.conditions = [self.read(one) for one in case.conditions]
 
-    def beside(self, word: str) -> str:
-        nodes, sign, path = word.rpartition("=")
-        return f"{nodes}{sign}{os.path.join(self.case.folder, path)}"
+    @classmethod
+    def of_case(cls, case: Case, simulator: str) -> "Observer":
+        """Over the run that the case names."""
+        path = os.path.join(case.folder, (case.source or ("", ""))[1])
+        scenario = Scenario.load(path)
+        words = [beside(case, word) for word in case.elfs]
+        return cls(case, simulator, path, scenario, Network(scenario, Programs(words, scenario)))
 
     def read(self, one: Stated) -> Watched:
         count = len(self.scenario.images)

@@ -2,6 +2,7 @@
 (`watch`)."""
 import contextlib
 import dataclasses
+import itertools
 import os
 import subprocess
 import tempfile
@@ -113,19 +114,31 @@ class Observed:
             for number, one in enumerate(found)
         }
 
-    def values(self, first: int) -> dict[tuple[int, int], bytes]:
-        return self.held_in(self.run.looked(first))
+    def values(self, cycle: int) -> dict[tuple[int, int], bytes]:
+        """The bytes as a cycle begins, half written or not."""
+        return self.held_in(self.run.looked(cycle))
+
+    def followed(self, first: int, end: int) -> tuple[dict[tuple[int, int], bytes], Iterator[Moment]]:
+        """The values as a cycle begins, and each new one from it on and before another cycle. A value may be half
+        written at either: so a few cycles more are looked at, and a value that becomes whole later is the old one."""
+        begun, ended = max(first - LEAD, self.run.first), min(end + LEAD, self.run.limit)
+        values = self.values(begun)
+        if begun == ended:
+            return values, iter(())
+        settler = Settler(self.quantities, dict(values), self.torn)
+        numbers = {(node, one.name): k for node, found in self.quantities.items() for k, one in enumerate(found)}
+        coming = settler.moments(self.run.changes(begun, ended, self.places()))
+        after: list[Moment] = []
+        for moment in coming:
+            if moment.cycle >= first:
+                after.append(moment)
+                break
+            values[moment.node, numbers[moment.node, moment.quantity.name]] = moment.held
+        return values, itertools.takewhile(lambda moment: moment.cycle < end, itertools.chain(after, coming))
 
     def moments(self, first: int, end: int) -> Iterator[Moment]:
-        """Each new value from a cycle on and before another. A value may be half written at either: so a few cycles
-        more are looked at."""
-        begun, ended = max(first - LEAD, self.run.first), min(end + LEAD, self.run.limit)
-        settler = Settler(self.quantities, self.held_in(self.run.looked(begun)), self.torn)
-        for moment in settler.moments(self.run.changes(begun, ended, self.places())):
-            if moment.cycle >= end:
-                return
-            if moment.cycle >= first:
-                yield moment
+        """Each new value from a cycle on and before another."""
+        return self.followed(first, end)[1]
 
 
 def read(node: Node, address: int, size: int) -> bytes:

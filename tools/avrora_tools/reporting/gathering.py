@@ -278,8 +278,13 @@ def checked(case: Case, found: Gathered, trace_path: str | None, avrora: str) ->
         if trace_path and case.source and case.source[0] == "run":
             source = os.path.join(case.folder, case.source[1])
             if os.path.realpath(source) == os.path.realpath(found.path):
+                observer = expectations.observer_of(case, avrora)
                 return expectations.check(
-                    case, traces.file_blocks(trace_path), name=files.shown(trace_path), lacking=Lacking()
+                    case,
+                    traces.file_blocks(trace_path),
+                    name=files.shown(trace_path),
+                    lacking=Lacking(),
+                    conditions=observer.failures if observer else None,
                 )
         return expectations.run_case(case, avrora)
     except ToolError as fault:

@@ -24,6 +24,9 @@ pub struct Lowering {
     pub spare: u16,
 }
 
+// How many rounds are left at least where a trial is worth its time.
+const FEW: u16 = 4;
+
 /// A round that lowers a loop counter by one.
 #[derive(Clone, Copy)]
 pub struct Countdown {
@@ -71,7 +74,8 @@ fn spared(value: u16, half: u16) -> u16
     }
 }
 
-// DEC, which leaves the register above, and SBIW by one.
+// DEC and SUBI by one, which leave the register above, and SBIW by one. The flags of SUBI stay the same while the lower
+// four bits do not come to 0, which a half carry follows.
 fn lowered_by(op: &Op, core: &Cpu) -> Option<Lowering>
     ensures { IfSome result (λ l. IsLowering op.now core.now l) }
 {
@@ -79,6 +83,18 @@ fn lowered_by(op: &Op, core: &Cpu) -> Option<Lowering>
         Op::Dec { d } => {
             let spare = spared(u16::from(core.reg(d)), 0x80);
             let high = above(d);
+            Some(Lowering {
+                low: d,
+                high,
+                spare,
+            })
+        }
+        Op::Subi { d, k } => {
+            if k != 1 {
+                return None;
+            }
+            let high = above(d);
+            let spare = u16::from(core.reg(d) % 16).saturating_sub(1);
             Some(Lowering {
                 low: d,
                 high,
@@ -125,6 +141,11 @@ fn long_lowered_by(op: &Op, next: &Op, core: &Cpu) -> Option<Lowering>
     })
 }
 
+// Whether SBCI follows SUBI, as where the number has two bytes or more. Nothing rests on it: it chooses where to look.
+fn is_low_byte(op: &Op, next: &Op) -> bool {
+    matches!(op, Op::Subi { .. }) && matches!(next, Op::Sbci { .. })
+}
+
 // Whether what an instruction does has nothing to do with the registers `low` and `high`.
 fn is_beside(op: &Op, low: Reg, high: Reg) -> bool
     ensures { result ≡ true → IsBeside low high op.now }
@@ -169,9 +190,16 @@ impl Machine {
         ensures one { IfSome result (λ c. c.round.count ≤ 2) }
     {
         let op = self.program.op(core.pc);
-        let Some(lowering) = lowered_by(&op, core) else {
+        if is_low_byte(&op, &self.program.op(core.pc.wrapping_add(1))) {
             return self.lower_long(core);
+        }
+        let Some(lowering) = lowered_by(&op, core) else {
+            return None;
         };
+        // what is left of so few rounds is executed for less than they are looked for
+        if lowering.spare < FEW {
+            return None;
+        }
         let length = u64::from(self.step_still(core));
         if length == 0 {
             return None;

@@ -44,6 +44,7 @@ fn is_steering(op: &Op) -> bool
 }
 
 // The data address of an instruction that loads one byte from an address of its own.
+#[inline(always)]
 fn load_of(op: &Op) -> Option<u16>
     ensures { IfSome result (λ at. IsLoad op.now at) }
 {
@@ -141,6 +142,7 @@ impl Machine {
 
     // The round of SBIS or SBIC that begins at the program counter and goes on to RJMP back to it, as most polls do: found
     // for half of what `round` takes.
+    #[inline(always)]
     fn bit_round(&mut self) -> Option<Round>
         ensures same { self.new ≡ self.old }
         ensures round { IfSome result (λ r. IsRound self.old r) }

@@ -9,6 +9,7 @@ use crate::machine::Machine;
 
 impl Machine {
     // Cycles of an instruction or an entry that are counted off, of at most so many: how many it were.
+    #[inline(always)]
     fn wait_out(&mut self, cycle: u64, most: u64) -> u64
         requires going { self.old.stop ≡ None }
         requires now { self.old.bus.io.clock ≡ cycle }
@@ -40,6 +41,7 @@ impl Machine {
 
     /// Cycles in which the node only waits or sleeps, from `cycle` on and of at most `most`: how many it were, 0 where
     /// the next one is to be taken by itself.
+    #[inline(always)]
     pub fn rest(&mut self, cycle: u64, most: u64) -> u64
         requires going { self.old.stop ≡ None }
         requires now { self.old.bus.io.clock ≡ cycle }

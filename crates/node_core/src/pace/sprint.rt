@@ -48,7 +48,7 @@ pub enum Step {
 }
 
 // How many short jumps back are passed by at most behind one at which no loop waits.
-const MOST_UNSEEN: u8 = 15;
+const MOST_UNSEEN: u8 = 31;
 
 // How many cycles a leap passes at least that takes less than to execute them: a trial takes as long as some twenty
 // instructions.
@@ -133,7 +133,7 @@ fn one_step(
 impl Machine {
     // The end of a sprint behind an instruction of `taken` cycles, whose first cycle this is: of it the processor's part
     // is done, and `owed` says whether another is owed. Behind it, where the devices end nothing in its cycles and these
-    // end by `end`; else inside.
+    // end by `end`; else inside. Most often a transfer's end is what comes: then nothing else is looked at.
     #[inline(never)]
     fn end_sprint(
         &mut self,
@@ -151,6 +151,22 @@ impl Machine {
         self.cpu = Cpu::of_parts(regs, core);
         self.owed = owed;
         let at = self.bus.io.now();
+        if self.bus.io.may_end_before(at + u64::from(taken)) {
+            self.wait = taken - 1;
+            return Sprinted { at, inside: true };
+        }
+        self.end_executed(at, end, taken)
+    }
+
+    // The same where the parts of the core stand in it again.
+    #[inline(never)]
+    fn end_executed(&mut self, at: u64, end: u64, taken: u8) -> Sprinted
+        requires may { MayEnd end taken self.old }
+        requires now { self.old.bus.io.clock ≡ at }
+        ensures sprinted { (t : ℕ) (first m : Machine) → IsSprinting t at first m → due (shown m) ≡ None
+            → IsStepped at taken m self.old → IsSprinted t result.at result.inside first self.new }
+        ensures within { result.at ≤ end }
+    {
         if self.passes_whole(at, end, taken) {
             return Sprinted {
                 at: at + u64::from(taken),

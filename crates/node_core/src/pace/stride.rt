@@ -31,10 +31,30 @@ impl Machine {
         self.bus.io.leap_quiet(cycle, taken)
     }
 
+    // The same where the timers' flags do not change in them, either. It calls nothing: a call in the loop of `stride` would
+    // take registers of the host from the sprint in it.
+    #[inline(always)]
+    fn passes_calm(&mut self, cycle: u64, end: u64, taken: u8) -> bool
+        requires now { self.old.bus.io.clock ≡ cycle }
+        requires early { cycle ≤ LAST_CYCLE }
+        requires none { (i : ℕ) → cycle + i < end → script_byte self.old.script (cycle + i) ≡ None }
+        ensures calm { result ≡ true → IsCalm cycle taken (shown self.old) }
+        ensures state { result ≡ true → shown self.new ≡ record (shown self.old) { board = timers_leap cycle taken (shown self.old).board } }
+        ensures same { result ≡ false → self.new ≡ self.old }
+        ensures others { self.new ≡ record self.old { bus = self.new.bus } }
+        ensures clock { result ≡ true → self.new.bus.io.clock ≡ cycle + taken }
+        ensures within { result ≡ true → cycle + taken ≤ end }
+    {
+        if cycle + u64::from(taken) > end {
+            return false;
+        }
+        self.bus.io.leap_whole(cycle, taken)
+    }
+
     // The devices' part of the cycle `cycle`, in which an instruction begins that takes `taken` cycles, and its other
     // cycles, if they end by `end`, up to which no byte arrives, and the devices end nothing in them: whether it was
-    // so. Not where `taken` is 0. In a call of its own: inlined, the code would slow the sprint beside it.
-    #[inline(never)]
+    // so. Not where `taken` is 0.
+    #[inline(always)]
     fn finish_instruction(&mut self, cycle: u64, end: u64, taken: u8) -> bool
         requires going { 0 < taken → IsGoing taken (shown self.old) }
         requires now { self.old.bus.io.clock ≡ cycle }
@@ -46,7 +66,7 @@ impl Machine {
         ensures clock { result ≡ true → self.new.bus.io.clock ≡ cycle + taken }
         ensures within { result ≡ true → cycle + taken ≤ end }
     {
-        if taken == 0 || !self.passes_whole(cycle, end, taken) {
+        if taken == 0 || !self.passes_calm(cycle, end, taken) {
             return false;
         }
         self.wait = 0;
@@ -61,7 +81,9 @@ impl Machine {
     }
 
     /// Cycles from `cycle` on, of at most `most`, in which the devices end nothing, and for whose rows there is room: how
-    /// many it were. Of the cycle after them the processor's part is done, and the devices' part is still to come.
+    /// many it were. Of the cycle after them the processor's part is done, and the devices' part is still to come. In a call of
+    /// its own: inlined, what its caller keeps would take registers of the host from the sprint in it.
+    #[inline(never)]
     pub fn stride(&mut self, cycle: u64, most: u64) -> u64
         requires going { self.old.stop ≡ None }
         requires now { self.old.bus.io.clock ≡ cycle }

@@ -13,7 +13,7 @@ use Rattle.fleet_flight.proofs.shadow.step.Goals as goal
 pub returns-clause-goes : goal.returns-clause-goes
 returns-clause-goes c =
     let v : Shadow = c.args.shadow.now in
-    let w : Shadow = record { node = c.forget_rows.new.node; number = v.number; places = v.places; last = c.compare.new.last } in
+    let w : Shadow = record { node = c.forget_rows.new.node; number = v.number; places = v.places; sights = v.sights; last = c.compare.new.last } in
     let left = ap (λ (z : Timed NodeState Row). z.state) c.forget_rows.ensures in
     let seen = c.in_ok-compare.ensures.seen
     ∙ ap (λ (l : List Place). c.args.changes.now.items ++ seen_of_all l v.last.items c.begun-begun.result c.cycle-cycle.result c.forget_rows.new.node.state) c.deref.ensures.value

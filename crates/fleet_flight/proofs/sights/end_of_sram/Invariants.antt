@@ -1,0 +1,11 @@
+use Rattle.std.proofs.Common.{ℕ, ◌<◌, ◌≤◌}
+use Rattle.std.specs.Prelude.{slice_index_or}
+use Rattle.fleet_flight.specs.Shadows.{IsOfSram, key_of}
+use Rattle.fleet_flight.specs.Watched.{no_place}
+use Rattle.fleet_flight.proofs.sights.end_of_sram.Given as goal
+
+abbrev pub invariant-loop-k : goal.invariant-loop-k
+invariant-loop-k l = record {
+  order : l.from ≤ l.k;
+  each : (j : ℕ) → l.from ≤ j → j < l.k → IsOfSram (slice_index_or l.places j no_place).spot (key_of (slice_index_or l.places j no_place).spot);
+}

@@ -1,0 +1,203 @@
+"""How conditions are read: what binds as in C, what no value can change; and when they turn, in a run that is known
+byte by byte. Without a simulator and a compiler."""
+import ast
+import itertools
+import random
+
+import pytest
+
+from avrora_tools.errors import BadInput
+from avrora_tools.observing.conditions import Reader, of_python
+from avrora_tools.observing.places import Change, Kind, Place
+from avrora_tools.observing.quantities import Names, Quantity
+from avrora_tools.observing.running import Run
+from avrora_tools.observing.searching import Watched, turns
+from avrora_tools.states import NAMES, Node, State
+from avrora_tools.variables import FLOAT, SIGNED_CHAR, UNSIGNED, UNSIGNED_CHAR, Array, Base
+from support import SEED
+
+U8, I8, U16 = Base("uint8_t", 1, UNSIGNED_CHAR), Base("int8_t", 1, SIGNED_CHAR), Base("uint16_t", 2, UNSIGNED)
+VARIABLES = {
+    "wide": Quantity("wide", 0x100, U16),
+    "count": Quantity("count", 0x102, U8),
+    "other": Quantity("other", 0x103, U8),
+    "level": Quantity("level", 0x104, I8),
+    "low": Quantity("low", 0x102, U8, 1, 0),
+    "next": Quantity("next", 0x102, U8, 1, 1),
+    "ratio": Quantity("ratio", 0x108, Base("float", 4, FLOAT)),
+    "row": Quantity("row", 0x110, Array(Array(U8, 3), 2)),
+}
+
+
+class Plain(Names):
+    """These names, without a program."""
+
+    def head_of(self, name):
+        head = name.partition("[")[0]
+        if head not in VARIABLES:
+            raise BadInput(f"no variable {head}")
+        return VARIABLES[head], len(head)
+
+
+PLAIN = Plain(None)
+ROW = [f"row[{a}][{b}]" for a in range(2) for b in range(3)]
+
+
+def read(text):
+    return Reader(PLAIN).read(text)
+
+
+def holds(text, row=7, **values):
+    return read(text).holds({**dict.fromkeys(ROW, row), **values})
+
+
+def test_not_binds_as_in_c():
+    """`!a == b` is `(!a) == b`; `not a == b` is `not (a == b)`, as Python has it."""
+    assert holds("!count == 1", count=0) and not holds("!count == 1", count=2)
+    assert holds("not count == 1", count=2)
+    assert holds("!count & wide", count=0, wide=1)
+    assert not holds("!count & wide", count=2, wide=1)
+    assert holds("2 * !count + 1 == 3", count=0)
+    assert holds("!!count == 1 && !-count == 0", count=7)
+    assert holds("!row[1][2] && wide != 3", row=0, wide=1)
+    assert holds("!(count > 3 || wide == 020)", count=3, wide=17)
+
+
+@pytest.mark.parametrize(
+    "text",
+    [
+        "wide & 1 == 0",
+        "0 == wide & 1",
+        "wide | count != 3 && wide",
+        "wide ^ 1 < 5",
+        "count < 3 == 1",
+        "count == wide == 1",
+        "1 < count > 3",
+    ],
+)
+def test_what_c_reads_otherwise_is_refused(text):
+    with pytest.raises(BadInput, match="parentheses"):
+        read(text)
+
+
+def test_parentheses_say_what_is_meant():
+    assert holds("(wide & 1) == 0 && 0 == (wide & 2)", wide=4)
+    assert holds("(count < 3) == 1", count=2)
+    assert holds("wide & (1 == 1)", wide=1)
+    assert holds("1 < count <= 3 && 5 >= wide > 2", count=3, wide=5)
+    with pytest.raises(BadInput, match="`wide \\*\\* 2` has no place"):
+        read("wide ** 2 == 4")
+
+
+def test_what_is_no_number_fulfils_nothing():
+    for text in ("row[wide][0] != 3", "row[wide][0]", "row[wide][0] && wide", "wide / (wide - 2) != 2"):
+        assert not holds(text, wide=2), text
+        assert holds(text, wide=1), text
+    assert holds("!row[wide][0]", wide=2)
+
+
+@pytest.mark.parametrize(
+    "text",
+    [
+        "wide >= 0 || ratio > 1",
+        "wide == wide || count == 1",
+        "wide < 65536 && level > -129",
+        "wide != 70000 || other",
+        "wide * 2 <= 131070 || other",
+        "wide % 10 < 10 || other",
+        "(wide & 0xF) <= 15 && level < 128",
+        "wide / 3 < 21846 || ratio > 1",
+        "(wide | count) <= 65535 || other",
+        "level * wide <= 8388480",
+        "-wide <= 0 && ~wide < level + 129",
+        "row[wide & 1][0] < 256",
+    ],
+)
+def test_what_holds_of_all_of_many_values_is_refused(text):
+    """Of more bits than are tried one by one."""
+    with pytest.raises(BadInput, match=" holds whatever the values are"):
+        read(text)
+    with pytest.raises(BadInput, match="does not hold whatever the values are"):
+        read(f"!({text})")
+
+
+def test_what_some_values_change_is_taken():
+    for text in ("ratio == ratio || wide", "row[wide][0] < 256", "row[count][0] >= 0 && level", "wide / count >= 0"):
+        read(text)
+
+
+def test_ranges_have_all_that_a_term_may_be():
+    """Terms by chance at the ends of their values, and between."""
+    draw = random.Random(SEED)
+    numbers = {"wide": [0, 1, 65535, 4096], "level": [-128, -1, 0, 127], "count": [0, 1, 255]}
+    words = ["wide", "level", "count", "(wide - level)", "(wide & count)", "(wide ^ 3)", "-level", "~wide"]
+    words += ["(wide % 9)", "level * count", "(wide >> 2)", "(level % 5)", "(wide | count)", "(level / 3)"]
+    words += ["(level & wide)", "(level ^ count)", "(wide / 7)"]
+    both = 0
+    for _ in range(400):
+        sign = draw.choice(["<", "<=", ">", ">=", "==", "!="])
+        text = f"{draw.choice(words)} {sign} {draw.choice([*words, '0', '65535', '-1', '300', '7'])}"
+        text = draw.choice(["{0}", "!({0})", "{0} || count < 3", "{0} && wide < 9", "!({0}) + level"]).format(text)
+        reader = Reader(PLAIN)
+        reader.source = of_python(text).strip()
+        term = reader.term(ast.parse(reader.source, mode="eval").body, 0)
+        values = [dict(zip(numbers, found)) for found in itertools.product(*numbers.values())]
+        assert all(term.range.low <= term.of(it) <= term.range.high for it in values), f"{text} AVRORA_SEED={SEED}"
+        if len({term.is_true(it) for it in values}) == 2:
+            both += 1
+            assert not term.range.is_true() and not term.range.is_false(), f"{text} AVRORA_SEED={SEED}"
+    assert both > 50
+
+
+# ---- when they turn
+
+# `wide` gets 0x01FF about cycle 500, a byte on each side of it; two bits of one byte turn over; two bytes change at
+# once.
+CHANGED = [(499, 0x100, 0xFF), (501, 0x101, 1), (700, 0x102, 0b01), (800, 0x102, 0b10)]
+CHANGED += [(900, 0x102, 0), (900, 0x103, 1)]
+
+
+class Recorded(Run):
+    """A run in which these bytes change."""
+
+    def looked(self, cycle):
+        sram = bytearray(0x1000)
+        for at, where, byte in CHANGED:
+            sram[where - 0x100] = byte if at < cycle else sram[where - 0x100]
+        return State(cycle, [Node([0] * len(NAMES), bytes(0xE0), bytes(sram))], [])
+
+    def changes(self, first, end, places):
+        seen = {place.address for place in places}
+        return (
+            Change(at, Place(0, Kind.BYTE, where), byte)
+            for at, where, byte in CHANGED
+            if first <= at < end and where in seen
+        )
+
+
+def turned(text, first=0, end=1_000, torn=False):
+    """When a condition turns, and whether it holds then."""
+    found = turns(Recorded("", "", "", 1_000), [Watched(0, read(text))], first, end, torn)
+    return [(where.cycle, now) for _, now, where in found]
+
+
+def test_a_value_that_is_half_written_as_a_span_begins_is_the_old_one():
+    assert turned("wide == 0xFF") == [(0, False)]
+    assert turned("wide == 0xFF", first=500) == [(500, False)]
+    assert turned("wide == 0", first=500) == [(500, True), (502, False)]
+    assert turned("wide == 0x1FF", first=502) == [(502, True)]
+    assert turned("wide == 0xFF", first=500, torn=True) == [(500, True), (502, False)]
+
+
+def test_what_changes_in_one_cycle_changes_at_once():
+    """One store turns two bits over: between them is no cycle."""
+    assert turned("low == next") == [(0, True), (701, False), (901, True)]
+    assert turned("low != next", first=750) == [(750, True), (901, False)]
+    assert turned("other || count", first=750) == [(750, True)]
+    assert turned("other && !count", first=750) == [(750, False), (901, True)]
+
+
+def test_what_changes_behind_a_span_does_not_count():
+    assert turned("wide == 0", end=501) == [(0, True)]
+    assert turned("wide == 0", end=502) == [(0, True), (502, False)]
+    assert turned("count", first=1_000) == [(1_000, False)]
