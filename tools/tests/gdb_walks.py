@@ -160,9 +160,10 @@ class Walk:
 
     def watch(self) -> None:
         """To the writes of the node's variable, on and back again; nothing else stops gdb meanwhile."""
-        node = self.at[1]
         self.points.clear()
         self.type("delete")
+        self.step()  # so that the tool sees that the watchpoint before is gone, which may be another node's
+        node = self.at[1]
         self.type(f"watch *(unsigned char *){0x800000 + self.model.address:#x}")
         writes = self.model.writes[node]
         for _ in range(self.draw.randrange(1, 4)):

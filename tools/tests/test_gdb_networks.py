@@ -191,6 +191,8 @@ def test_a_long_step_ends_where_the_short_ones_do(folder, monkeypatch):
             first, end = 2 * row.address - draw.choice([0, 4, 20]), 2 * row.address + draw.choice([2, 8, 40, 300])
             if draw.random() < 0.7:  # the loop of main, in which the node sleeps
                 first, end = main_of(folder, "every_tick" if node == 1 else "total")
+                while row.kind != "instr" or not first <= 2 * row.address < end:
+                    row = past.next_row(node, row.cycle)
             words = f"vCont;r{first:x},{end:x}:{node + 1:x};c".encode()
             found = []
             for long in (1, 10**9):

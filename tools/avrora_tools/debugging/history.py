@@ -41,6 +41,9 @@ VECTORS = range(0x0002, 0x0046, 2)
 SLEEP = b"\x88\x95"
 WAKING = 8
 
+# A node that is awake mostly has a row among the last so many bytes of a trace.
+NEAR_BYTES = 16_384
+
 # A step so near the end of a span asks for the next one too, in cycles.
 NEAR = STEP_SPAN // 4
 
@@ -92,6 +95,18 @@ class Window:
             rows = [traced_of(match[0].decode("ascii")) for match in like.finditer(self.text)]
             found = self.read[node] = rows, [row.cycle for row in rows]
         return found
+
+    def last_between(self, node: int, first: int, cycle: int) -> Traced | None:
+        """A node's last row from a cycle on and before another; no other row is read for it."""
+        like = re.compile(rb"^\d+ %d (?:instr|enter|stop) [^\n]*" % node, re.M)
+        lowest, end = line_at(self.text, first), line_at(self.text, cycle)
+        for begin in (self.text.rfind(b"\n", lowest, max(end - NEAR_BYTES, lowest)) + 1, lowest):
+            found = None
+            for found in like.finditer(self.text, max(begin, lowest), end):
+                pass
+            if found:
+                return traced_of(found[0].decode("ascii"))
+        return None
 
     def begins_at(self, words: Iterable[int]) -> Iterator[tuple[int, int, int]]:
         """Each instruction that begins at one of these word addresses: its cycle, node and address."""
@@ -330,11 +345,10 @@ class History:
         one = self.state(begin).nodes[node]
         if begin == cycle or one.stop():
             return Doing(one.stop(), bool(one["asleep"]))
-        rows, cycles = self.window(number).of(node)
-        since = rows[bisect.bisect_left(cycles, begin) : bisect.bisect_left(cycles, cycle)]
-        if not since:
+        last = self.window(number).last_between(node, begin, cycle)
+        if last is None:
             return Doing(None, bool(one["asleep"]))
-        return Doing(since[-1].rest if since[-1].kind == "stop" else None, since[-1].rest == "sleep")
+        return Doing(last.rest if last.kind == "stop" else None, last.rest == "sleep")
 
     # ---- places
 

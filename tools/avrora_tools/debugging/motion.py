@@ -131,6 +131,7 @@ class Motion:
         before = self.at
         self.stand(self.at._replace(node=action.node))
         if not action.alone:  # else gdb only passes over a breakpoint
+            self.watches.go()
             self.history.foresee(action.node, before.cycle)
         stop = self.stepped(action)
         if action.alone:
@@ -242,6 +243,7 @@ class Motion:
     def step_back(self, node: int) -> Stop:
         """To the instruction that the node executed before; over interrupts, unless they are to be shown."""
         self.unseen = None
+        self.watches.go()
         self.stand(self.at._replace(node=node))
         self.history.foresee(node, self.at.cycle)
         before = self.at
