@@ -102,6 +102,11 @@ class Motion:
         """Goes to a place, and notes the word address at which the node stands there, where that is known."""
         self.at, self.word = at, word
 
+    def jump(self, at: Place) -> None:
+        """Goes to a place with no way there: nothing was passed by."""
+        self.unseen = self.told_write = None
+        self.stand(at)
+
     # ---- breakpoints
 
     def add_point(self, point: Point) -> None:
@@ -128,15 +133,15 @@ class Motion:
 
     def step(self, action: Action) -> Stop:
         """To the node's next instruction, the first outside of the range where there is one."""
-        before = self.at
+        before = self.unseen or self.at
         self.stand(self.at._replace(node=action.node))
         if not action.alone:  # else gdb only passes over a breakpoint
             self.watches.go()
-            self.history.foresee(action.node, before.cycle)
+            self.history.foresee(action.node, self.at.cycle)
+        begun = self.at
         stop = self.stepped(action)
-        if action.alone:
-            self.unseen = self.unseen or before
-        if write := self.write_between(before, self.at, action.others):
+        self.unseen = before if action.alone else None
+        if write := self.write_between(begun, self.at, action.others):
             return self.behind(write)
         if not action.alone and (other := self.point_of_others(before, action)):
             self.stand(other)
