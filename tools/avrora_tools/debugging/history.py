@@ -310,7 +310,8 @@ class History:
     def foresee(self, node: int, cycle: int) -> None:
         """Asks for the node's replay and all rows about a cycle, and beside it where that is near."""
         number, place = divmod(cycle, STEP_SPAN)
-        for beside in (number, number + 1) if place > STEP_SPAN - NEAR else (number, number - 1) if place < NEAR else (number,):
+        near = [number + 1] if place > STEP_SPAN - NEAR else [number - 1] if place < NEAR else []
+        for beside in [number, *near]:
             if not self.first // STEP_SPAN <= beside < spans(self.limit, STEP_SPAN):
                 continue
             self.window_soon(beside)
@@ -338,7 +339,8 @@ class History:
     def doing(self, node: int, cycle: int) -> Doing:
         """What a node does as a cycle begins: from a state and rows, where both are known about there."""
         number = cycle // STEP_SPAN
-        known = [one for one, state in self.states.items() if one <= cycle and one // STEP_SPAN == number and state.done()]
+        made = [one for one, state in self.states.items() if state.done()]
+        known = [one for one in made if one <= cycle and one // STEP_SPAN == number]
         if number not in self.windows or not known:
             known = [cycle]
         begin = max(known)

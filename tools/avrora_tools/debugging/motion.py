@@ -96,7 +96,6 @@ class Motion:
         self.shows_interrupts = False
         self.hasty = 0  # so many breakpoints were met since gdb's user had time to think
         self.stand(at)
-        self.all_nodes = range(history.nodes)
 
     def stand(self, at: Place, word: int | None = None) -> None:
         """Goes to a place, and notes the word address at which the node stands there, where that is known."""
@@ -172,7 +171,8 @@ class Motion:
         places = [*(Seen(node, Kind.AT, word) for word in words), *self.point_places([node])]
         sightings = self.history.sightings
         try:
-            for piece, seen in sightings.searched(sightings.pieces_on(cycle + 1, self.history.limit), places, self.wants_stop):
+            pieces = sightings.pieces_on(cycle + 1, self.history.limit)
+            for piece, seen in sightings.searched(pieces, places, self.wants_stop):
                 self.stand(Place(piece.first, node))
                 for one in seen:
                     if self.is_point(node, one.place.address) or self.comes_from(action, node, one.cycle):
@@ -292,7 +292,8 @@ class Motion:
         try:
             for looked in self.looked_at(pieces, nodes):
                 write = self.first_write(looked.writes, own)
-                meeting = next((one for one in looked.meetings if start < one.place and not is_behind(one.place, own)), None)
+                ahead = (one for one in looked.meetings if start < one.place and not is_behind(one.place, own))
+                meeting = next(ahead, None)
                 if write and (meeting is None or Place(write.last, write.node) < meeting.place):
                     return self.written(write)
                 if meeting:
