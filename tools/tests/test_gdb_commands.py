@@ -35,7 +35,7 @@ WORKS = [
     ("info threads", "node 2"),
     ("thread apply all print ticks", "$3 = "),
     ("delete;watch got;continue", "New value"),
-    ("delete;watch got if got == 2;continue", "New value = 2"),
+    ("delete;watch got if got == 2;continue;print got", "= 2 "),
     ("set scheduler-locking on;continue", "Thread 1 "),
     ("monitor bookmark here;continue;monitor goto here", "cycle "),
     ("kill", "killed"),
