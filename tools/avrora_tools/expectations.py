@@ -482,8 +482,9 @@ def opened(case: Case, where: Where | None) -> list[str]:
     if where is None or case.source is None or case.source[0] != "run":
         return []
     parts = (word.rpartition("=") for word in case.elfs)
-    elfs = [f"{nodes}{sign}{os.path.join(case.folder, path)}" for nodes, sign, path in parts]
-    return [f"debug: {debug_command(os.path.join(case.folder, case.source[1]), where, elfs)}"]
+    elfs = [f"{nodes}{sign}{os.path.relpath(os.path.join(case.folder, path))}" for nodes, sign, path in parts]
+    scenario = os.path.relpath(os.path.join(case.folder, case.source[1]))
+    return [f"debug: {debug_command(scenario, where, elfs)}"]
 
 
 def whole_trace(trace: traces.Trace, blocks: Iterator[bytes], ended: Ended) -> Iterator[traces.TraceRow]:

@@ -90,10 +90,12 @@ class Gdb:
         while True:
             line = self.line()
             lines.append(line)
-            if (found := RESULT.fullmatch(line)) and int(found[1]) == self.count and not word:
+            if (found := RESULT.fullmatch(line)) and int(found[1]) == self.count:
                 word, rest = found[2], found[3]
             elif found := STOPPED.fullmatch(line):
                 word, rest = "stopped", found[1]
+            if word == "exit":  # no prompt comes any more
+                break
             # `connected` and `running` tell the stop behind themselves.
             if line.strip() == PROMPT and word in ("done", "stopped", "error", "exit", "connected"):
                 break

@@ -11,13 +11,15 @@ import statistics
 import subprocess
 import sys
 import tempfile
+import time
 
 from gdb_driver import Gdb
 from support import TOP
 
 SECOND = 7_372_800  # cycles
 NODES = 8
-STEPS = 60
+STEPS = 80
+PAUSE = 0.3  # seconds, in which a user reads what gdb shows
 
 
 def network(image: str) -> str:
@@ -61,14 +63,16 @@ def measure(folder: pathlib.Path, name: str, draw: random.Random) -> None:
         say(name, "first goto, to 1.9 s", [stand(gdb, 19 * SECOND // 10)])
         say(name, "goto drawn", [stand(gdb, draw.randrange(2 * SECOND)) for _ in range(20)])
         for command in ("stepi", "step", "reverse-stepi", "reverse-step"):
-            first, later = [], []
-            for _ in range(6):
+            at_once, paused, later = [], [], []
+            for number in range(8):
                 stand(gdb, draw.randrange(SECOND // 10, 2 * SECOND))
                 gdb.type("tbreak hear")  # the sink does, twice a byte time
                 gdb.type("continue")
-                first.append(gdb.type(command).seconds)
-                later += [gdb.type(command).seconds for _ in range(STEPS // 6)]
-            say(name, f"{command}, the first somewhere", first)
+                time.sleep(PAUSE * (number % 2))
+                (paused if number % 2 else at_once).append(gdb.type(command).seconds)
+                later += [gdb.type(command).seconds for _ in range(STEPS // 8)]
+            say(name, f"{command}, at once behind a breakpoint", at_once)
+            say(name, f"{command}, {PAUSE} s behind it", paused)
             say(name, f"{command}, the next ones", later)
     with Gdb(folder, f"{name}.elf") as gdb:
         gdb.connect(f"{name}.toml", program)

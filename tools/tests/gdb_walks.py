@@ -65,7 +65,7 @@ class Model:
     # ---- where gdb is to come to
 
     def step(self, cycle: int, node: int, points: set[int]) -> tuple[int, int]:
-        """Behind a step of a node, over interrupts; another node's breakpoint may come before."""
+        """Behind a step of a node, over interrupts unless a breakpoint lies in them."""
         depth, end = 0, self.limit
         for row in self.rows[node][bisect.bisect_right(self.cycles[node], cycle) :]:
             if row.kind == "enter":
@@ -75,8 +75,14 @@ class Model:
             elif not depth or row.word in points:
                 end = row.cycle
                 break
-        others = [at for at in self.hits(points) if (cycle, node) < at < (end, node) and at[1] != node]
-        return others[0] if others else (end, node)
+        return end, node
+
+    def passed(self, before: tuple[int, int], at: tuple[int, int], points: set[int]) -> tuple[int, int] | None:
+        """The first breakpoint that another node than that of `at` meets on the way there."""
+        return next((one for one in self.hits(points) if before < one < at and one[1] != at[1]), None)
+
+    def stands_at(self, at: tuple[int, int], points: set[int]) -> bool:
+        return any(at in self.visits[word] for word in points)
 
     def step_back(self, cycle: int, node: int) -> tuple[int, int]:
         depth = 0
@@ -92,8 +98,10 @@ class Model:
     def hits(self, points: set[int]) -> list[tuple[int, int]]:
         return sorted(place for word in points for place in self.visits[word])
 
-    def go_on(self, cycle: int, node: int, points: set[int]) -> tuple[int, int]:
-        return next((at for at in self.hits(points) if at > (cycle, node)), (self.limit, node))
+    def go_on(self, start: tuple[int, int], own: tuple[int, int], points: set[int]) -> tuple[int, int]:
+        """The first breakpoint behind a place, where one node has gone on to another place since."""
+        later = (at for at in self.hits(points) if at > start and not (at[1] == own[1] and at[0] <= own[0]))
+        return next(later, (self.limit, own[1]))
 
     def go_back(self, cycle: int, node: int, points: set[int]) -> tuple[int, int]:
         return next((at for at in reversed(self.hits(points)) if at < (cycle, node)), (0, node))
@@ -111,6 +119,8 @@ class Walk:
         self.gdb, self.model, self.draw, self.seed = gdb, model, random.Random(seed), seed
         self.done: list[str] = []
         self.at = (0, 0)
+        # Where gdb took its breakpoint out to step over it: it does not see other nodes come to theirs meanwhile.
+        self.unseen: tuple[int, int] | None = None
         self.points: set[int] = set()
 
     def type(self, command: str) -> str:
@@ -132,14 +142,29 @@ class Walk:
 
     def step(self, first: bool = False) -> None:
         """A step of the node that gdb shows."""
-        before = self.gdb_thread() if first else self.at[1]
-        cycle = self.place()[0]
-        self.at = self.model.step(cycle, before, self.points)
+        if first:
+            self.at, self.unseen = (self.place()[0], self.gdb_thread()), None
+        before = self.unseen or self.at
+        if self.model.stands_at(self.at, self.points):
+            self.at, self.unseen = self.model.step(*self.at, self.points), before
+        else:
+            self.at, self.unseen = self.model.step(*self.at, self.points), None
+            self.at = self.model.passed(before, self.at, self.points) or self.at
         self.type("stepi")
 
     def back(self) -> None:
-        self.at = self.model.step_back(*self.at)
+        self.at, self.unseen = self.model.step_back(*self.at), None
         self.type("reverse-stepi")
+
+    def go_on(self) -> None:
+        start = own = self.at
+        if self.model.stands_at(self.at, self.points):
+            own = self.model.step(*self.at, self.points)
+        if own != start and self.model.stands_at(own, self.points):
+            self.at, self.unseen = own, self.unseen or start
+        else:
+            self.at, self.unseen = self.model.go_on(self.unseen or start, own, self.points), None
+        self.type("continue")
 
     def search(self) -> None:
         """To a drawn breakpoint, on or back; it may stay for the moves behind."""
@@ -148,10 +173,9 @@ class Walk:
         self.type(f"break *{2 * word:#x}")
         for _ in range(self.draw.randrange(1, 4)):
             if self.draw.random() < 0.5:
-                self.at = self.model.go_on(*self.at, self.points)
-                self.type("continue")
+                self.go_on()
             else:
-                self.at = self.model.go_back(*self.at, self.points)
+                self.at, self.unseen = self.model.go_back(*self.at, self.points), None
                 self.type("reverse-continue")
             self.check()
         if self.draw.random() < 0.7:
@@ -160,9 +184,11 @@ class Walk:
 
     def watch(self) -> None:
         """To the writes of the node's variable, on and back again; nothing else stops gdb meanwhile."""
-        node = self.at[1]
         self.points.clear()
         self.type("delete")
+        self.step()  # so that the tool sees that the watchpoint before is gone, which may be another node's
+        node = self.at[1]
+        self.unseen = None
         self.type(f"watch *(unsigned char *){0x800000 + self.model.address:#x}")
         writes = self.model.writes[node]
         for _ in range(self.draw.randrange(1, 4)):
@@ -212,7 +238,7 @@ def walks(folder: str, program: str, seeds: range, say=None) -> int:
         gdb.connect("packet.toml", program)
         for count, seed in enumerate(seeds, 1):
             Walk(gdb, model, seed).go()
-            if say and count % 50 == 0:
+            if say and count % 10 == 0:
                 say(f"{count} walks")
     return len(seeds)
 

@@ -182,8 +182,9 @@ def main_of(folder, name):
 def test_a_long_step_ends_where_the_short_ones_do(folder, monkeypatch):
     """Of drawn ranges of instructions: by the ways out of them, and instruction by instruction."""
     draw = random.Random(7)
-    with history.history(str(folder / "two.toml"), PROGRAM) as past:
-        one = session.Session(past, packets.Channel(-1, -1))
+    own, other = socket.socketpair()
+    with own, other, history.history(str(folder / "two.toml"), PROGRAM) as past:
+        one = session.Session(past, packets.Channel(own.fileno(), own.fileno()))
         ends = []
         for _ in range(24):
             node, cycle = draw.randrange(3), past.limit - draw.randrange(30_000, 60_000)
@@ -191,6 +192,8 @@ def test_a_long_step_ends_where_the_short_ones_do(folder, monkeypatch):
             first, end = 2 * row.address - draw.choice([0, 4, 20]), 2 * row.address + draw.choice([2, 8, 40, 300])
             if draw.random() < 0.7:  # the loop of main, in which the node sleeps
                 first, end = main_of(folder, "every_tick" if node == 1 else "total")
+                while row.kind != "instr" or not first <= 2 * row.address < end:
+                    row = past.next_row(node, row.cycle)
             words = f"vCont;r{first:x},{end:x}:{node + 1:x};c".encode()
             found = []
             for long in (1, 10**9):
@@ -380,6 +383,7 @@ def test_what_an_editor_sends(folder):
         made = one.ask("-var-create --thread 1 --frame 0 - * total")
         assert made.word == "done" and made.field("value") == "0"
         assert one.ask(f'-var-evaluate-expression {made.field("name")}').field("value") == "0"
+        assert one.ask(f'-break-delete {found.field("number")}').word == "done"  # node 2 comes to it in this cycle too
         assert one.ask("-exec-next").field("reason") == "end-stepping-range"
         assert one.ask("-exec-next").word == "stopped"
         assert one.ask("-exec-step --reverse").word == "stopped"

@@ -168,7 +168,7 @@ def test_the_earliest_failure_of_a_byte_alone_names_its_moves(races, tmp_path, i
     ]
     status, out, _ = sweep(folder, *words, "--out", str(tmp_path / "it is alone.toml"))
     assert status == 1
-    assert ("earliest: (cd " in out) != is_beside
+    assert ("earliest: (cd " in out) != is_beside and "debug: " not in out
     assert re.search(r"^4433\d\d 2 enter 0024 0084$", rows_of_earliest(out, folder), re.M)
     notes = (tmp_path / "it is alone.toml").read_text().splitlines()[1:3]
     assert notes == [

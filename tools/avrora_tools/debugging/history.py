@@ -41,6 +41,9 @@ VECTORS = range(0x0002, 0x0046, 2)
 SLEEP = b"\x88\x95"
 WAKING = 8
 
+# A node that is awake mostly has a row among the last so many bytes of a trace.
+NEAR_BYTES = 16_384
+
 # A step so near the end of a span asks for the next one too, in cycles.
 NEAR = STEP_SPAN // 4
 
@@ -92,6 +95,18 @@ class Window:
             rows = [traced_of(match[0].decode("ascii")) for match in like.finditer(self.text)]
             found = self.read[node] = rows, [row.cycle for row in rows]
         return found
+
+    def last_between(self, node: int, first: int, cycle: int) -> Traced | None:
+        """A node's last row from a cycle on and before another; no other row is read for it."""
+        like = re.compile(rb"^\d+ %d (?:instr|enter|stop) [^\n]*" % node, re.M)
+        lowest, end = line_at(self.text, first), line_at(self.text, cycle)
+        for begin in (self.text.rfind(b"\n", lowest, max(end - NEAR_BYTES, lowest)) + 1, lowest):
+            found = None
+            for found in like.finditer(self.text, max(begin, lowest), end):
+                pass
+            if found:
+                return traced_of(found[0].decode("ascii"))
+        return None
 
     def begins_at(self, words: Iterable[int]) -> Iterator[tuple[int, int, int]]:
         """Each instruction that begins at one of these word addresses: its cycle, node and address."""
@@ -295,7 +310,8 @@ class History:
     def foresee(self, node: int, cycle: int) -> None:
         """Asks for the node's replay and all rows about a cycle, and beside it where that is near."""
         number, place = divmod(cycle, STEP_SPAN)
-        for beside in (number, number + 1) if place > STEP_SPAN - NEAR else (number, number - 1) if place < NEAR else (number,):
+        near = [number + 1] if place > STEP_SPAN - NEAR else [number - 1] if place < NEAR else []
+        for beside in [number, *near]:
             if not self.first // STEP_SPAN <= beside < spans(self.limit, STEP_SPAN):
                 continue
             self.window_soon(beside)
@@ -323,18 +339,18 @@ class History:
     def doing(self, node: int, cycle: int) -> Doing:
         """What a node does as a cycle begins: from a state and rows, where both are known about there."""
         number = cycle // STEP_SPAN
-        known = [one for one, state in self.states.items() if one <= cycle and one // STEP_SPAN == number and state.done()]
+        made = [one for one, state in self.states.items() if state.done()]
+        known = [one for one in made if one <= cycle and one // STEP_SPAN == number]
         if number not in self.windows or not known:
             known = [cycle]
         begin = max(known)
         one = self.state(begin).nodes[node]
         if begin == cycle or one.stop():
             return Doing(one.stop(), bool(one["asleep"]))
-        rows, cycles = self.window(number).of(node)
-        since = rows[bisect.bisect_left(cycles, begin) : bisect.bisect_left(cycles, cycle)]
-        if not since:
+        last = self.window(number).last_between(node, begin, cycle)
+        if last is None:
             return Doing(None, bool(one["asleep"]))
-        return Doing(since[-1].rest if since[-1].kind == "stop" else None, since[-1].rest == "sleep")
+        return Doing(last.rest if last.kind == "stop" else None, last.rest == "sleep")
 
     # ---- places
 

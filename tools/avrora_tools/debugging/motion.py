@@ -96,11 +96,15 @@ class Motion:
         self.shows_interrupts = False
         self.hasty = 0  # so many breakpoints were met since gdb's user had time to think
         self.stand(at)
-        self.all_nodes = range(history.nodes)
 
     def stand(self, at: Place, word: int | None = None) -> None:
         """Goes to a place, and notes the word address at which the node stands there, where that is known."""
         self.at, self.word = at, word
+
+    def jump(self, at: Place) -> None:
+        """Goes to a place with no way there: nothing was passed by."""
+        self.unseen = self.told_write = None
+        self.stand(at)
 
     # ---- breakpoints
 
@@ -128,14 +132,15 @@ class Motion:
 
     def step(self, action: Action) -> Stop:
         """To the node's next instruction, the first outside of the range where there is one."""
-        before = self.at
+        before = self.unseen or self.at
         self.stand(self.at._replace(node=action.node))
         if not action.alone:  # else gdb only passes over a breakpoint
-            self.history.foresee(action.node, before.cycle)
+            self.watches.go()
+            self.history.foresee(action.node, self.at.cycle)
+        begun = self.at
         stop = self.stepped(action)
-        if action.alone:
-            self.unseen = self.unseen or before
-        if write := self.write_between(before, self.at, action.others):
+        self.unseen = before if action.alone else None
+        if write := self.write_between(begun, self.at, action.others):
             return self.behind(write)
         if not action.alone and (other := self.point_of_others(before, action)):
             self.stand(other)
@@ -166,7 +171,8 @@ class Motion:
         places = [*(Seen(node, Kind.AT, word) for word in words), *self.point_places([node])]
         sightings = self.history.sightings
         try:
-            for piece, seen in sightings.searched(sightings.pieces_on(cycle + 1, self.history.limit), places, self.wants_stop):
+            pieces = sightings.pieces_on(cycle + 1, self.history.limit)
+            for piece, seen in sightings.searched(pieces, places, self.wants_stop):
                 self.stand(Place(piece.first, node))
                 for one in seen:
                     if self.is_point(node, one.place.address) or self.comes_from(action, node, one.cycle):
@@ -242,6 +248,7 @@ class Motion:
     def step_back(self, node: int) -> Stop:
         """To the instruction that the node executed before; over interrupts, unless they are to be shown."""
         self.unseen = None
+        self.watches.go()
         self.stand(self.at._replace(node=node))
         self.history.foresee(node, self.at.cycle)
         before = self.at
@@ -285,7 +292,8 @@ class Motion:
         try:
             for looked in self.looked_at(pieces, nodes):
                 write = self.first_write(looked.writes, own)
-                meeting = next((one for one in looked.meetings if start < one.place and not is_behind(one.place, own)), None)
+                ahead = (one for one in looked.meetings if start < one.place and not is_behind(one.place, own))
+                meeting = next(ahead, None)
                 if write and (meeting is None or Place(write.last, write.node) < meeting.place):
                     return self.written(write)
                 if meeting:

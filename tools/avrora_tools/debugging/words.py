@@ -86,7 +86,7 @@ class Words:
             raise Refused(f"the run has {self.session.history.limit:,} cycles")
         if cycle < self.session.history.first:
             raise Refused(f"the run begins in cycle {self.session.history.first:,}")
-        self.motion.stand(self.motion.at._replace(cycle=cycle))
+        self.motion.jump(self.motion.at._replace(cycle=cycle))
         return self.here()
 
     def here(self) -> str:
@@ -121,7 +121,7 @@ class Words:
         if found is None:
             raise Refused(f"no {words[0]} {'behind' if forward else 'before'} cycle {self.motion.at.cycle:,}")
         cycle, whose, text = found
-        self.motion.stand(Place(cycle, whose))
+        self.motion.jump(Place(cycle, whose))
         self.session.shown = whose
         return f"{self.here()}: {text}"
 
