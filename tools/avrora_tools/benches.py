@@ -111,7 +111,7 @@ class Bench:
         begun = time.monotonic()
         places = itertools.count()
 
-        def made_together(job: Job) -> tuple[str | int, ...]:
+        def made_together(job: Job) -> tuple[object, ...]:
             return (job.scenario, job.check, job.moves[0]) if job.moves else (next(places),)
 
         for _, alike in itertools.groupby(jobs, made_together):
