@@ -1,10 +1,13 @@
-"""campaign: the words of an operator of many machines: --stop-after, --order drawn, --dry-run, --counts, --merge."""
+"""campaign: what an operator of many machines has: --stop-after, --order drawn, --dry-run, --counts, --merge, the log, and
+when it ends."""
 import os
+import re
+import socket
 
 import pytest
 
 from campaign_runs import CAMPAIGN, folder, run_campaign, starts
-from avrora_tools import sittings, watching
+from avrora_tools import runs, sittings, watching
 
 FAILING = "{ from = 20, to = 29 }"  # by the case of campaign_runs
 PASSING = "{ from = 30, to = 49 }"
@@ -68,9 +71,9 @@ def test_dry_run():
         assert not os.path.exists(f"{path}/c.results")
         lines = out.splitlines()
         assert lines[0].startswith("50 drawn runs: 50 passed; ") and " ms each, the slowest " in lines[0]
-        assert lines[1].startswith("1,000 runs: about ") and lines[1].endswith(" with 2 workers")
+        assert re.fullmatch("1,000 runs: about .* with [12] workers", lines[1])  # the second one may come too late
         assert lines[2].startswith("the simulator takes ") and lines[2].endswith(", and results 300 kB")
-        made = [int(latency) for latency in starts(path)]
+        made = {int(latency) for latency in starts(path)}
         assert len(made) == 50 and max(made) - min(made) > 900
 
 
@@ -133,3 +136,42 @@ def test_merge_of_some_parts():
         assert set(starts(path)) == {"31", "33"}
         status, _, errors, _ = run_campaign(path, "--merge")
         assert status == 0 and "not here" not in errors, errors
+
+
+def test_the_log():
+    """Each line has its time, in UTC; of what came of runs and of workers it has the hosts."""
+    with folder(campaign("[3, 20, 30]")) as path:
+        status, _, errors, _ = run_campaign(path, "--jobs", "2")
+        assert status == 1, errors
+        with open(f"{path}/c.results/campaign.log", encoding="utf-8") as file:
+            lines = file.read().splitlines()
+    times, texts = zip(*(line.split(" ", 1) for line in lines))
+    assert all(re.fullmatch(r"20\d\d-\d\d-\d\dT\d\d:\d\d:\d\dZ", time) for time in times) and list(times) == sorted(times)
+    worker = f"{re.escape(socket.gethostname())} process [01]"
+    for expected in (
+        f"the worker {worker} proved itself",
+        f"begun again: net latency=3: on {worker}: status 6: ",
+        f"failed: net latency=20 \\(on {worker}\\): .*",
+        f"the worker {worker}: [0-9]+ runs.*",
+    ):
+        assert any(re.fullmatch(expected, text) for text in texts), (expected, texts)
+
+
+def test_when_it_ends(monkeypatch):
+    """By the rate of the last minute, and not by that of before."""
+    now = 1_000.0
+    monkeypatch.setattr(watching.time, "monotonic", lambda: now)
+    monkeypatch.setattr(watching.time, "time", lambda: 0.0)
+    monkeypatch.setattr(watching.time, "localtime", lambda seconds: watching.time.gmtime(seconds))
+    progress = watching.Progress(1_000)
+    assert "to go" not in progress.text(3, 2)
+    now += 60
+    progress.count(runs.PASSED, 100)
+    assert progress.text(3, 2).endswith("3 under way with 2 workers, 60 s, 540 s to go, until about 00:09")
+    now += 60
+    progress.count(runs.PASSED, 300)
+    progress.text(3, 2)
+    now += 1
+    assert progress.text(3, 2).endswith("121 s, 122 s to go, until about 00:02")
+    progress.count(runs.PASSED, 600)
+    assert "to go" not in progress.text(0, 2)
