@@ -69,6 +69,7 @@ def test_the_same_seed_varies_the_same_and_what_is_found_fails(at, tmp_path):
     for path in found:
         if "-right" not in path.name:
             right = path.with_name(path.name.replace(".toml", "-right.toml"))
+            assert re.search(r"^# Drawn by seed 1 of `hunt`, (starts|cuts): .+\.$", path.read_text(encoding="utf-8"), re.M)
             one, two = (lines_of_sink(path.parent, it.name) for it in (path, right))
             assert one != two
     shutil.rmtree(tmp_path / "corpus")
@@ -77,7 +78,7 @@ def test_the_same_seed_varies_the_same_and_what_is_found_fails(at, tmp_path):
 
 
 def without_times(text):
-    return re.sub(r"^[\d,]+ runs in .*| \([\d.]+ \w+ of processors\)", "", text, flags=re.M)
+    return re.sub(r"^[\d,]+ runs in .*| \([\d,]+ s of processors\)", "", text, flags=re.M)
 
 
 def test_a_corpus_goes_on(at, tmp_path):

@@ -1,14 +1,16 @@
 """The parts of a hunt, by hand: what is changed in a scenario, what a run is judged by, how a failing scenario becomes
 small."""
+import dataclasses
 import json
 import random
 
 import pytest
 
 from avrora_tools.errors import BadInput
-from avrora_tools.hunting.causes import Uneven, look_of, uneven
+from avrora_tools.hunting.causes import Finding, Uneven, look_of, uneven
 from avrora_tools.hunting.changes import FOR_GOOD, Cut, Input, Latency, Trial, record_of, trial_of, without_node
 from avrora_tools.hunting.corpus import Corpus
+from avrora_tools.hunting.handing import Overwritten
 from avrora_tools.hunting.kinds import NAMES, Cuts, Facts, kinds_of
 from avrora_tools.hunting.oracles import DOUBLED, LOST, SILENT, STOPPED, WRONG, Failure, Oracle, Reference
 from avrora_tools.hunting.races import stretches, sweep_command
@@ -179,6 +181,16 @@ def test_each_packet_is_lost_once_and_what_follows_is_lost_too():
     assert len(cuts.following) == 2
 
 
+def test_a_node_is_absent_for_a_while():
+    cuts = Cuts(facts(), random.Random(1))
+    trials = [cuts.absent(facts().bursts[0], 1, random.Random(seed)) for seed in range(20)]
+    for trial in trials:
+        assert [(it.sender, it.hearer) for it in trial.changes] == [(0, 1), (1, 0), (1, 2)]
+        assert {it.first for it in trial.changes} == {100} and not trial.lasts()
+        assert all(2_001 <= it.end - it.first <= 50_000 // 8 for it in trial.changes)
+    assert len({it.changes[0].end for it in trials}) > 10
+
+
 class FakeRunner:
     """Node 0 writes `a`; it does not where link 1 to 0 is cut in cycle 450 and node 2 is there."""
 
@@ -269,6 +281,21 @@ def test_looks_of_causes():
     assert look_of(TRIAL, DOCUMENT, lost) == (LOST, "", "a cut", "a latency", "a start")
     other = Trial("inputs", "", (Input(2, 300, 9, "024142"),))
     assert look_of(other, DOCUMENT, Failure(LOST, 0, "", True)) == (LOST, "with a clash there", "an input")
+
+
+def test_findings_of_one_cause():
+    lost, doubled = Failure(LOST, 0, ""), Failure(DOUBLED, 0, "")
+    inbox, queue = Overwritten(1, "inbox", "a.c:7", 5, 9), Overwritten(2, "queue", "a.c:9", 5, 9)
+    place = Finding((LOST, "a cut"), lost, overwritten=(inbox,))
+    assert place.is_of(Finding((LOST, "a start"), lost, overwritten=(dataclasses.replace(inbox, node=2),)))
+    for other in (
+        Finding(place.look, lost), Finding(place.look, lost, overwritten=(queue,)),
+        Finding(place.look, doubled, overwritten=(inbox,)),
+    ):  # fmt: skip
+        assert not place.is_of(other) and not other.is_of(place)
+    one = Finding(place.look, lost, lines=("a.c:3",))
+    assert one.is_of(Finding(place.look, lost, lines=("a.c:3",)))
+    assert not one.is_of(Finding(place.look, lost)) and not one.is_of(Finding((LOST, "a start"), lost, lines=("a.c:3",)))
 
 
 def test_lines_that_come_apart():
