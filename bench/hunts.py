@@ -96,17 +96,19 @@ class Firmware:
         corpus = self.folder / f"{name}-{seed}.hunt"
         words = [TOP / "avrora-tools", "hunt", "--avrora", self.program, "-e", f"{name}.elf", "--until", str(UNTIL)]
         words += ["--processor-minutes", str(minutes), "--jobs", str(jobs), "--seed", str(seed), "--corpus", corpus]
-        ran = subprocess.run([*words, f"{name}.toml"], cwd=self.folder, stdout=subprocess.PIPE, text=True, check=False)
+        log = self.folder / f"{name}-{seed}.txt"
+        with open(log, "w", encoding="utf-8") as file:
+            ran = subprocess.run([*words, f"{name}.toml"], cwd=self.folder, stdout=file, check=False)
+        output = log.read_text(encoding="utf-8")
         if ran.returncode not in (0, 1):
             sys.exit(f"hunts.py: the hunt of seed {seed} ended with status {ran.returncode}")
-        texts = re.split(r"^(?=\d+\. \w)", ran.stdout, flags=re.M)[1:]
-        seconds = [int(it[2].replace(",", "")) for it in FOUND.finditer(ran.stdout)]
+        texts = re.split(r"^(?=\d+\. \w)", output, flags=re.M)[1:]
+        seconds = [int(it[2].replace(",", "")) for it in FOUND.finditer(output)]
         found = [
             Told(when, text, self.faults_of(corpus / f"found-{number}.toml", text))
             for number, (when, text) in enumerate(zip(seconds, texts), 1)
         ]
-        (self.folder / f"{name}-{seed}.txt").write_text(ran.stdout, encoding="utf-8")
-        return found, ENDED.search(ran.stdout)[0]
+        return found, ENDED.search(output)[0]
 
 
 def lines_of(source: list[str], name: str) -> Iterator[int]:
