@@ -211,6 +211,37 @@ def test_a_failing_scenario_becomes_small():
     assert small.until < 50_000 and small.document["cycles"] - small.until == 50_000
 
 
+def test_a_failure_that_lacks_something_else_is_another():
+    def lacking(*parts):
+        return Failure(LOST, 0, "", parts=frozenset(parts))
+
+    assert lacking(b"a").is_alike(lacking(b"a", b"b")) and lacking(b"a", b"c").is_alike(lacking(b"a"))
+    assert not lacking(b"c").is_alike(lacking(b"a", b"b")) and not lacking().is_alike(lacking(b"a"))
+    assert not Failure(DOUBLED, 0, "", parts=frozenset([b"a"])).is_alike(lacking(b"a"))
+    found = Oracle(range(3)).failure(REFERENCE, None, serial(b"a\n"))
+    assert found.parts == {b"b"} and Oracle(range(3)).failure(REFERENCE, None, serial(b"a\nb\nb\n")).parts == {b"b"}
+
+
+class Drifting(FakeRunner):
+    """Node 0 writes neither `a` nor `b` where link 1 to 0 is cut in cycle 450, and where node 2 is not there it lacks
+    `c` then."""
+
+    def outputs(self, documents):
+        for document in documents:
+            link = next((it for it in document["link"] if (it["from"], it["to"]) == (1, 0)), {})
+            is_open = any(first <= 450 < end for first, end in link.get("open", [[0, FOR_GOOD]]))
+            lacks = b"c\n" if len(document["node"]) < 3 else b"a\nb\n"
+            yield serial(b"".join(line for line in (b"a\n", b"b\n", b"c\n") if is_open or line not in lacks))
+
+
+def test_a_scenario_becomes_no_other_failure():
+    smaller = Smaller(Drifting(), lambda count: Oracle(range(count)), True, lambda: False)
+    scene = Scene(DOCUMENT, 50_000, Trial("cuts", "", (Cut(0, 1, 0, 50), Cut(1, 0, 400, 500))))
+    small, failure = smaller.smaller(scene, smaller.failure(scene))
+    assert len(small.document["node"]) == 3 and failure.parts == {b"a", b"b"}
+    assert small.trial.changes == (Cut(1, 0, 400, 500),)
+
+
 def test_a_check_knows_nodes_by_their_numbers():
     trial = Trial("pairs", "", (Cut(1, 0, 400, 500), Input(2, 350, 400, "024142")))
     smaller = Smaller(FakeRunner(), lambda count: Oracle(range(count)), False, lambda: False)
