@@ -6,7 +6,6 @@ from collections.abc import Callable, Iterator, Sequence
 from dataclasses import dataclass
 
 from avrora_tools.hunting.causes import Finding, Lines, Look, look_of
-from avrora_tools.hunting.waiting import Failing, Waiting
 from avrora_tools.hunting.changes import Document, Trial
 from avrora_tools.hunting.handing import Handing
 from avrora_tools.hunting.kinds import Facts, Kind, kinds_of
@@ -16,6 +15,7 @@ from avrora_tools.hunting.races import Races
 from avrora_tools.hunting.said import bursts_of
 from avrora_tools.hunting.smaller import OracleOf, Scene, Smaller
 from avrora_tools.hunting.trials import Runner, processor_seconds
+from avrora_tools.hunting.waiting import Failing, Waiting
 from avrora_tools.sweeping.limits import Limit
 
 LOOKING = 0.85  # the share of the time in which new trials are made; what failed is made small in the rest too
@@ -157,6 +157,8 @@ class Hunt:
         if self.runner.is_elsewhere and not smaller.made_here(scene):
             return None
         look = look_of(scene.trial, scene.document, wrong)
+        if self.limit.is_over():  # who ends a hunt does not wait for what these take
+            return Finding(look, wrong, scene, failing.trial, failing.look)
         alone, uneven = self.lines.otherwise(scene)
         overwritten = self.handing.overwritten(scene)
         return Finding(look, wrong, scene, failing.trial, failing.look, alone, uneven, overwritten)
