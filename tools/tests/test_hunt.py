@@ -1,15 +1,17 @@
 """Hunts by the program that AVRORA_PROGRAM names: of the network of examples/races, and of examples/hunt."""
+import json
 import os
 import re
 import shlex
 import shutil
+import signal
 import subprocess
 import sys
 from pathlib import Path
 
 import pytest
 
-from support import TOP, run_tool
+from support import TOOL, TOP, run_tool
 
 EXAMPLES = Path(TOP) / "examples"
 PROGRAM = os.environ.get("AVRORA_PROGRAM")
@@ -69,6 +71,7 @@ def test_the_same_seed_varies_the_same_and_what_is_found_fails(at, tmp_path):
     for path in found:
         if "-right" not in path.name:
             right = path.with_name(path.name.replace(".toml", "-right.toml"))
+            assert re.search(r"^# Drawn by seed 1 of `hunt`, (starts|cuts): .+\.$", path.read_text(encoding="utf-8"), re.M)
             one, two = (lines_of_sink(path.parent, it.name) for it in (path, right))
             assert one != two
     shutil.rmtree(tmp_path / "corpus")
@@ -77,7 +80,7 @@ def test_the_same_seed_varies_the_same_and_what_is_found_fails(at, tmp_path):
 
 
 def without_times(text):
-    return re.sub(r"^[\d,]+ runs in .*| \([\d.]+ \w+ of processors\)", "", text, flags=re.M)
+    return re.sub(r"^[\d,]+ runs in .*| \([\d,]+ s of processors\)", "", text, flags=re.M)
 
 
 def test_a_corpus_goes_on(at, tmp_path):
@@ -160,3 +163,19 @@ def test_the_commands_of_a_finding_open_it(at, tmp_path, monkeypatch):
         ran = subprocess.run(command, shell=True, capture_output=True, text=True, check=False)
         assert ran.returncode in ((0, 1) if re.search(" (diff|sweep) ", command) else (0,)), (command, ran.stderr)
     assert list((tmp_path / "corpus").glob("found-1.toml.html"))
+    missing = re.findall(r"^not covered: (.*)$", out, re.M)
+    assert len(missing) == 1 and "arrivals cycle by cycle (no -e" in missing[0] and "all kinds but starts" in missing[0]
+
+
+@pytest.mark.parametrize("number", [signal.SIGINT, signal.SIGTERM])
+def test_a_hunt_that_is_cut_tells_what_it_found(at, tmp_path, number):
+    words = ["hunt", "alarm.toml", *at("races"), "--until", "700_000", "--only", "starts,cuts"]
+    with subprocess.Popen([*TOOL, *words], stdout=subprocess.PIPE, text=True) as process:
+        next(line for line in process.stdout if line.startswith("found after"))
+        process.send_signal(number)
+        rest = process.stdout.read()
+    told = {signal.SIGINT: "^C", signal.SIGTERM: "SIGTERM"}[number]
+    assert process.returncode == 1 and f"\ncut: {told}\n" in rest
+    assert re.search(r"^1\. lost: node 0 did not write", rest, re.M) and "not covered: " in rest
+    assert json.loads((tmp_path / "corpus/hunt.json").read_text())["failed"]
+    assert (tmp_path / "corpus/found-1.toml").exists()

@@ -1,14 +1,16 @@
 """The parts of a hunt, by hand: what is changed in a scenario, what a run is judged by, how a failing scenario becomes
 small."""
+import dataclasses
 import json
 import random
 
 import pytest
 
 from avrora_tools.errors import BadInput
-from avrora_tools.hunting.causes import Uneven, look_of, uneven
+from avrora_tools.hunting.causes import Finding, Uneven, look_of, uneven
 from avrora_tools.hunting.changes import FOR_GOOD, Cut, Input, Latency, Trial, record_of, trial_of, without_node
 from avrora_tools.hunting.corpus import Corpus
+from avrora_tools.hunting.handing import Overwritten
 from avrora_tools.hunting.kinds import NAMES, Cuts, Facts, kinds_of
 from avrora_tools.hunting.oracles import DOUBLED, LOST, SILENT, STOPPED, WRONG, Failure, Oracle, Reference
 from avrora_tools.hunting.races import stretches, sweep_command
@@ -198,6 +200,16 @@ def test_each_packet_is_lost_once_and_what_follows_is_lost_too():
     assert len(cuts.following) == 2
 
 
+def test_a_node_is_absent_for_a_while():
+    cuts = Cuts(facts(), random.Random(1))
+    trials = [cuts.absent(facts().bursts[0], 1, random.Random(seed)) for seed in range(20)]
+    for trial in trials:
+        assert [(it.sender, it.hearer) for it in trial.changes] == [(0, 1), (1, 0), (1, 2)]
+        assert {it.first for it in trial.changes} == {100} and not trial.lasts()
+        assert all(2_001 <= it.end - it.first <= 50_000 // 8 for it in trial.changes)
+    assert len({it.changes[0].end for it in trials}) > 10
+
+
 class FakeRunner:
     """Node 0 writes `a`; it does not where link 1 to 0 is cut in cycle 450 and node 2 is there."""
 
@@ -216,6 +228,37 @@ def test_a_failing_scenario_becomes_small():
     assert small.trial.changes == (Cut(1, 0, 400, 500),) and failure.class_ == LOST
     assert [len(small.document["node"]), len(small.document["link"])] == [2, 1]
     assert small.until < 50_000 and small.document["cycles"] - small.until == 50_000
+
+
+def test_a_failure_that_lacks_something_else_is_another():
+    def lacking(*parts):
+        return Failure(LOST, 0, "", parts=frozenset(parts))
+
+    assert lacking(b"a").is_alike(lacking(b"a", b"b")) and lacking(b"a", b"c").is_alike(lacking(b"a"))
+    assert not lacking(b"c").is_alike(lacking(b"a", b"b")) and not lacking().is_alike(lacking(b"a"))
+    assert not Failure(DOUBLED, 0, "", parts=frozenset([b"a"])).is_alike(lacking(b"a"))
+    found = Oracle(range(3)).failure(REFERENCE, None, serial(b"a\n"))
+    assert found.parts == {b"b"} and Oracle(range(3)).failure(REFERENCE, None, serial(b"a\nb\nb\n")).parts == {b"b"}
+
+
+class Drifting(FakeRunner):
+    """Node 0 writes neither `a` nor `b` where link 1 to 0 is cut in cycle 450, and where node 2 is not there it lacks
+    `c` then."""
+
+    def outputs(self, documents):
+        for document in documents:
+            link = next((it for it in document["link"] if (it["from"], it["to"]) == (1, 0)), {})
+            is_open = any(first <= 450 < end for first, end in link.get("open", [[0, FOR_GOOD]]))
+            lacks = b"c\n" if len(document["node"]) < 3 else b"a\nb\n"
+            yield serial(b"".join(line for line in (b"a\n", b"b\n", b"c\n") if is_open or line not in lacks))
+
+
+def test_a_scenario_becomes_no_other_failure():
+    smaller = Smaller(Drifting(), lambda count: Oracle(range(count)), True, lambda: False)
+    scene = Scene(DOCUMENT, 50_000, Trial("cuts", "", (Cut(0, 1, 0, 50), Cut(1, 0, 400, 500))))
+    small, failure = smaller.smaller(scene, smaller.failure(scene))
+    assert len(small.document["node"]) == 3 and failure.parts == {b"a", b"b"}
+    assert small.trial.changes == (Cut(1, 0, 400, 500),)
 
 
 def test_a_check_knows_nodes_by_their_numbers():
@@ -288,6 +331,21 @@ def test_looks_of_causes():
     assert look_of(TRIAL, DOCUMENT, lost) == (LOST, "", "a cut", "a latency", "a start")
     other = Trial("inputs", "", (Input(2, 300, 9, "024142"),))
     assert look_of(other, DOCUMENT, Failure(LOST, 0, "", True)) == (LOST, "with a clash there", "an input")
+
+
+def test_findings_of_one_cause():
+    lost, doubled = Failure(LOST, 0, ""), Failure(DOUBLED, 0, "")
+    inbox, queue = Overwritten(1, "inbox", "a.c:7", 5, 9), Overwritten(2, "queue", "a.c:9", 5, 9)
+    place = Finding((LOST, "a cut"), lost, overwritten=(inbox,))
+    assert place.is_of(Finding((LOST, "a start"), lost, overwritten=(dataclasses.replace(inbox, node=2),)))
+    for other in (
+        Finding(place.look, lost), Finding(place.look, lost, overwritten=(queue,)),
+        Finding(place.look, doubled, overwritten=(inbox,)),
+    ):  # fmt: skip
+        assert not place.is_of(other) and not other.is_of(place)
+    one = Finding(place.look, lost, lines=("a.c:3",))
+    assert one.is_of(Finding(place.look, lost, lines=("a.c:3",)))
+    assert not one.is_of(Finding(place.look, lost)) and not one.is_of(Finding((LOST, "a start"), lost, lines=("a.c:3",)))
 
 
 def test_lines_that_come_apart():

@@ -10,7 +10,8 @@ from avrora_tools.hunting import kinds, telling
 from avrora_tools.hunting.causes import Lines
 from avrora_tools.hunting.changes import Document
 from avrora_tools.hunting.corpus import Corpus
-from avrora_tools.hunting.hunt import Hunt
+from avrora_tools.hunting.handing import Handing, Sharings
+from avrora_tools.hunting.hunt import Hunt, Means
 from avrora_tools.hunting.oracles import Oracle
 from avrora_tools.hunting.races import NAME as ARRIVALS
 from avrora_tools.hunting.races import Races
@@ -30,7 +31,8 @@ NAMES = (*kinds.NAMES, ARRIVALS)
 DESCRIPTION = """Varies a scenario for some minutes and tells what breaks it, by cause, each with the smallest scenario
 that still fails. In turns, and more of what finds something:
   starts     when nodes start: at once, staggered, drawn
-  cuts       each packet of each link lost; a part of it; what is sent again too; an exchange both ways
+  cuts       each packet of each link lost; a part of it; what is sent again too; an exchange both ways; all links
+             of a node for a while
   inputs     bytes that arrive earlier, later and nearer to each other; with a check of yours twice or not at all
   latencies  of links
   losses     links lost for good or open late, nodes silent or deaf
@@ -68,14 +70,16 @@ def run(arguments: argparse.Namespace) -> int:
         oracle_of = oracle_maker(arguments, len(scenario.images))
         lines = Lines(tails, known)
         lines.know(document)
+        sharings = Sharings(simulator)
+        handing = Handing(simulator, sharings, lines.by_image.get)
         chosen = chosen_of(arguments.only)
         races = None
         if chosen is None or ARRIVALS in chosen:
-            races = Races(simulator, document, until, known, arguments.jobs, limit, corpus.race, conditions)
+            races = Races(simulator, document, until, known, sharings, arguments.jobs, limit, corpus.race, conditions)
         has_check = bool(arguments.expect or arguments.check or arguments.always)
-        hunt = Hunt(
-            Runner(tails, scenes_, oracle_of(len(scenario.images)).rows), document, until, oracle_of, has_check, races, lines, limit, arguments.seed, chosen
-        )
+        runner = Runner(tails, scenes_, oracle_of(len(scenario.images)).rows)
+        means = Means(runner, oracle_of, has_check, races, lines, handing, limit)
+        hunt = Hunt(means, document, until, arguments.seed, chosen)
         if hunt.unmoved_failure:
             raise BadInput(f"the scenario fails as it is, with nothing varied: {hunt.unmoved_failure.text}")
         print_plan(hunt, corpus)

@@ -9,6 +9,7 @@ from collections.abc import Iterator
 from avrora_tools import terminal
 from avrora_tools.errors import CannotWork
 from avrora_tools.hunting.changes import Cut, Document, Input, Latency, Trial, inputs_of
+from avrora_tools.hunting.handing import Overwritten
 from avrora_tools.hunting.oracles import Failure
 from avrora_tools.hunting.smaller import Scene
 from avrora_tools.programs import Program, Programs
@@ -42,7 +43,7 @@ class Finding:
     """A cause: how often it was met and by which kinds of trials, the smallest scenario, and what is wrong there.
 
     `lines` are run in the failing run and not in the right one, as FILE:LINE of the nodes' programs, and of `uneven`
-    lines one was run more often than the other there alone. Of a race `places` says where the arrival comes, `command`
+    lines one was run more often than the other there alone; `overwritten` was handed over twice there alone. Of a race `places` says where the arrival comes, `command`
     sweeps it, and `opened` runs it."""
 
     look: Look
@@ -50,10 +51,11 @@ class Finding:
     scene: Scene | None = None
     first: Trial | None = None  # as it was drawn
     drawn_look: Look = ()  # and what could be seen of it then
-    kinds: Counter[str] = dataclasses.field(default_factory=Counter)
-    texts: Counter[str] = dataclasses.field(default_factory=Counter)
     lines: tuple[str, ...] = ()
     uneven: tuple[Uneven, ...] = ()
+    overwritten: tuple[Overwritten, ...] = ()
+    kinds: Counter[str] = dataclasses.field(default_factory=Counter)
+    texts: Counter[str] = dataclasses.field(default_factory=Counter)
     places: tuple[str, ...] = ()
     command: str = ""
     opened: str = ""  # a line of a shell that runs the earliest failing arrival
@@ -62,6 +64,16 @@ class Finding:
     def apart(self) -> tuple[object, ...]:
         """What tells causes of one look from each other."""
         return self.lines, tuple((it.one, it.other) for it in self.uneven[:1])
+
+    def handed(self) -> frozenset[tuple[str, str]]:
+        """What was handed over twice, and where."""
+        return frozenset((it.name, it.line) for it in self.overwritten)
+
+    def is_of(self, other: "Finding") -> bool:
+        """Whether it has the cause of another."""
+        if self.handed() or other.handed():
+            return self.failure.class_ == other.failure.class_ and self.handed() == other.handed()
+        return self.look == other.look and self.apart() == other.apart()
 
     @property
     def count(self) -> int:

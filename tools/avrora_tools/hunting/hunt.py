@@ -3,10 +3,11 @@ import random
 import time
 from collections import Counter
 from collections.abc import Callable, Iterator, Sequence
+from dataclasses import dataclass
 
-from avrora_tools.hunting.causes import Finding, Lines, look_of
-from avrora_tools.hunting.waiting import Failing, Waiting
+from avrora_tools.hunting.causes import Finding, Lines, Look, look_of
 from avrora_tools.hunting.changes import Document, Trial
+from avrora_tools.hunting.handing import Handing
 from avrora_tools.hunting.kinds import Facts, Kind, kinds_of
 from avrora_tools.hunting.oracles import Failure, Oracle, Reference
 from avrora_tools.hunting.races import NAME as ARRIVALS
@@ -14,7 +15,8 @@ from avrora_tools.hunting.races import Races
 from avrora_tools.hunting.said import bursts_of
 from avrora_tools.hunting.smaller import OracleOf, Scene, Smaller
 from avrora_tools.hunting.trials import Runner, processor_seconds
-from avrora_tools.sweeping.limits import Limit, shown_time
+from avrora_tools.hunting.waiting import Failing, Waiting
+from avrora_tools.sweeping.limits import Limit
 
 LOOKING = 0.85  # the share of the time in which new trials are made; what failed is made small in the rest too
 TURN = 12  # trials of a kind in a round
@@ -26,31 +28,32 @@ MOST_FOR_FINDING = 3  # as many times a turn, where a kind found new causes of l
 Told = Callable[[str], None]
 
 
+@dataclass(frozen=True)
+class Means:
+    """What a hunt works with. `has_check`: whether the user says what is right."""
+
+    runner: Runner
+    oracle_of: OracleOf
+    has_check: bool
+    races: Races | None
+    lines: Lines
+    handing: Handing
+    limit: Limit
+
+
 class Hunt:
     """One hunt."""
 
-    def __init__(
-        self,
-        runner: Runner,
-        document: Document,
-        until: int,
-        oracle_of: OracleOf,
-        has_check: bool,
-        races: Races | None,
-        lines: Lines,
-        limit: Limit,
-        seed: int,
-        chosen: set[str] | None = None,
-    ) -> None:
-        self.runner, self.document, self.until, self.oracle_of = runner, document, until, oracle_of
-        self.has_check, self.races, self.lines, self.limit, self.seed = has_check, races, lines, limit, seed
-        self.chosen = chosen
+    def __init__(self, means: Means, document: Document, until: int, seed: int, chosen: set[str] | None = None) -> None:
+        self.runner, self.oracle_of, self.has_check = means.runner, means.oracle_of, means.has_check
+        self.races, self.lines, self.handing, self.limit = means.races, means.lines, means.handing, means.limit
+        self.document, self.until, self.seed, self.chosen = document, until, seed, chosen
         self.begun = time.monotonic()
-        output = runner.output(document)
+        output = self.runner.output(document)
         self.reference = Reference(output, until, int(document["cycles"]))
-        self.oracle: Oracle = oracle_of(len(document["node"]))
+        self.oracle: Oracle = self.oracle_of(len(document["node"]))
         self.unmoved_failure = self.oracle.failure(self.reference, None, output)
-        self.facts = Facts(document, bursts_of(output, int(document.get("byte_time", 3_072))), until, has_check)
+        self.facts = Facts(document, bursts_of(output, int(document.get("byte_time", 3_072))), until, self.has_check)
         self.tried: Counter[str] = Counter()
         self.failed: Counter[str] = Counter()
         self.credit: Counter[str] = Counter()
@@ -69,7 +72,8 @@ class Hunt:
         while not self.limit.is_over(LOOKING) and (most_rounds is None or self.rounds - first_round < most_rounds):
             self.round(self.kinds, tell)
             self.rounds += 1
-        self.look_closer(1.0, tell)
+        if most_rounds is None:
+            self.look_closer(1.0, tell)
         self.fold()
 
     def look_closer(self, share: float, tell: Told) -> None:
@@ -153,17 +157,21 @@ class Hunt:
         if self.runner.is_elsewhere and not smaller.made_here(scene):
             return None
         look = look_of(scene.trial, scene.document, wrong)
+        if self.limit.is_over():  # who ends a hunt does not wait for what these take
+            return Finding(look, wrong, scene, failing.trial, failing.look)
         alone, uneven = self.lines.otherwise(scene)
-        return Finding(look, wrong, scene, failing.trial, failing.look, lines=alone, uneven=uneven)
+        overwritten = self.handing.overwritten(scene)
+        return Finding(look, wrong, scene, failing.trial, failing.look, alone, uneven, overwritten)
 
     def merge(self, found: Finding, kind: str, tell: Told) -> None:
-        """Findings of one look whose failing runs execute the same lines are one."""
+        """Findings of one cause are one."""
         for finding in self.findings:
-            if finding.look == found.look and finding.apart() == found.apart():
+            if found.is_of(finding):
                 finding.kinds += found.kinds
                 finding.texts += found.texts
                 if found.scene and finding.scene and found.scene.size() < finding.scene.size():
-                    finding.scene, finding.failure = found.scene, found.failure
+                    finding.scene, finding.failure, finding.look = found.scene, found.failure, found.look
+                    finding.lines, finding.uneven, finding.overwritten = found.lines, found.uneven, found.overwritten
                 return
         self.findings.append(found)
         self.credit[kind] += 2
@@ -186,5 +194,5 @@ class Hunt:
 
     def tell_found(self, tell: Told, kind: str, text: str) -> None:
         runs = self.runner.runs + (self.races.runs if self.races else 0)
-        tell(f"found after {runs:,} runs ({shown_time(processor_seconds())} of processors), by {kind}: {text}")
+        tell(f"found after {runs:,} runs ({processor_seconds():,.0f} s of processors), by {kind}: {text}")
 

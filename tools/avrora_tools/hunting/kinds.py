@@ -12,6 +12,7 @@ from avrora_tools.hunting.said import Burst
 from avrora_tools.sweeping.events import EVERY
 
 MOST_CUTS = 3  # packets of one link in a row
+LONGEST_ABSENCE = 8  # the part of the time to the deadline for which a node is absent at most
 MOST_WAITING = 10_000  # cuts that follow from others, and are not tried yet
 LEAST_ROOM = 10_000  # cycles within which starts are drawn at least
 LATENCIES = (1, 4_000)
@@ -105,7 +106,7 @@ class Cuts:
     """Links that lose a packet, a part of one, or some in a row."""
 
     name = "cuts"
-    covers = f"links cut for a packet, a byte, an exchange, {MOST_CUTS} packets in a row"
+    covers = f"links cut for a packet, a byte, an exchange, {MOST_CUTS} packets in a row; nodes absent for a while"
 
     def __init__(self, facts: Facts, random_: random.Random) -> None:
         self.facts = facts
@@ -128,7 +129,7 @@ class Cuts:
     def other(self, random_: random.Random) -> Trial:
         burst = random_.choice([it for it in self.facts.bursts if self.facts.hearers.get(it.node)])
         to = random_.choice(self.facts.hearers[burst.node])
-        way = random_.randrange(3)
+        way = random_.randrange(4)
         if way == 0:
             changes = [cut_of(burst, hearer) for hearer in self.facts.hearers[burst.node]]
             return Trial(self.name, "a packet is heard by nobody", tuple(changes))
@@ -136,12 +137,22 @@ class Cuts:
             first = random_.randrange(burst.first, burst.last + 1)
             last = min(burst.last, first + random_.choice((0, 1, 4)) * self.facts.byte_time)
             return Trial(self.name, "a part of a packet is lost", (Cut(burst.node, to, first, last + 1),))
+        if way == 2:
+            return self.absent(burst, to, random_)
         answers = [it for it in self.facts.bursts if it.node == to and it.first > burst.first]
         end = answers[0].last + 1 if answers else burst.last + 1
         both = [Cut(burst.node, to, burst.first, end)]
         if burst.node in self.facts.hearers.get(to, []):
             both.append(Cut(to, burst.node, burst.first, end))
         return Trial(self.name, "a packet and what follows are lost both ways", tuple(both))
+
+    def absent(self, burst: Burst, node: int, random_: random.Random) -> Trial:
+        """A node that neither hears nor is heard for a while from a packet on, as its neighbours see one that is reset,
+        or behind a door."""
+        length = log_uniform(random_, burst.last + 1 - burst.first, max(1, self.facts.until // LONGEST_ABSENCE))
+        links = [ends_of(link) for link in self.facts.document["link"] if node in ends_of(link)]
+        changes = [Cut(*link, burst.first, burst.first + length) for link in links]
+        return Trial(self.name, "a node neither hears nor is heard for a while", tuple(changes))
 
     def passed(self, trial: Trial, bursts: Sequence[Burst]) -> None:
         """Of what was sent behind the last cut of a link the next packets can be cut too."""

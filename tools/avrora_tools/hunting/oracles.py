@@ -31,10 +31,16 @@ class Failure:
     text: str
     has_clash: bool = False
     condition: str = ""  # of a condition that does not hold: its words, and who broke it
+    parts: frozenset[bytes] = frozenset()  # the lines, or bytes, that are missing or too much
 
     def cause(self) -> tuple[str, str]:
         """What failures of one cause have in common, as far as it can be seen."""
         return self.class_, self.condition or ("with a clash there" if self.has_clash else "")
+
+    def is_alike(self, other: "Failure") -> bool:
+        """Whether it may be another's, in a scenario that is a part of the other's: of the same class, and of something
+        that was missing or too much there too. Else a scenario that becomes small would end with another cause."""
+        return self.cause() == other.cause() and (not other.parts or bool(self.parts & other.parts))
 
 
 @dataclass(frozen=True)
@@ -107,11 +113,11 @@ class Oracle:
             if more:
                 class_ = DOUBLED if all(part in parts_of(good.get(node, b""), False) for part in more) else WRONG
                 text = f"node {node} wrote {listed(sorted(more.elements()))} too much"
-                return Failure(class_, node, text, has_new_clash(reference, output, node))
+                return Failure(class_, node, text, has_new_clash(reference, output, node), parts=frozenset(more))
             lost = parts_of(due.get(node, b""), True) - parts_of(got.get(node, b""), False)
             if lost and not (trial and trial.lasts()):
                 text = f"node {node} did not write {listed(sorted(lost.elements()))}"
-                return Failure(LOST, node, text, has_new_clash(reference, output, node))
+                return Failure(LOST, node, text, has_new_clash(reference, output, node), parts=frozenset(lost))
         return None
 
     def fell_silent(self, reference: Reference, trial: Trial | None, output: bytes) -> Failure | None:

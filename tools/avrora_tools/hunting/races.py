@@ -8,6 +8,7 @@ from collections.abc import Callable, Iterator, Mapping, Sequence
 from avrora_tools.errors import BadInput, BadWords
 from avrora_tools.hunting.causes import Finding
 from avrora_tools.hunting.changes import Document, Trial, inputs_of
+from avrora_tools.hunting.handing import Sharings
 from avrora_tools.hunting.oracles import Failure, Oracle, Reference
 from avrora_tools.hunting.smaller import Scene
 from avrora_tools.hunting.watching import Conditions
@@ -17,7 +18,7 @@ from avrora_tools.sweeping import findings as grouping
 from avrora_tools.sweeping.events import EVERY, InputByte, Move, Moved, MovedScenario, Script, Span, moved_scenario, script_of
 from avrora_tools.sweeping.limits import Limit
 from avrora_tools.sweeping.plans import spread
-from avrora_tools.sweeping.sharing import Sharing, objects_of
+from avrora_tools.sweeping.sharing import Sharing
 from avrora_tools.sweeping.simulation import ProcessTails, Simulator
 from avrora_tools.sweeping.sweep import Options, Sweep
 from avrora_tools.sweeping.telling import shown_command, write_earliest
@@ -67,12 +68,15 @@ class OracleCheck:
 class Races:
     """The kind of a hunt that sweeps. A turn is one visit, or one drawn span."""
 
+    covers = "bytes that arrive cycle by cycle where handlers and main share something, and in drawn spans"
+
     def __init__(
         self,
         simulator: Simulator,
         document: Document,
         until: int,
         programs: Programs | None,
+        sharings: Sharings,
         jobs: int,
         limit: Limit,
         place_of: Callable[[int], str],
@@ -85,7 +89,7 @@ class Races:
         self.simulator, self.document, self.until, self.jobs, self.limit = simulator, document, until, jobs, limit
         self.programs = programs
         self.executions = Executions(simulator, dict(document))
-        self.sharings: dict[str, Sharing] = {}
+        self.sharings = sharings
         self.events = list(self.bytes_that_move())
         self.waiting = self.visits()
         self.ready: list[Visit] = []
@@ -111,11 +115,7 @@ class Races:
                     yield events.pop()
 
     def sharing(self, node: int, program: Program) -> Sharing:
-        image = self.document["node"][node]["image"]
-        if image not in self.sharings:
-            listing = self.simulator.call("disasm", image).decode().splitlines()
-            self.sharings[image] = Sharing(program, listing, objects_of(program.path))
-        return self.sharings[image]
+        return self.sharings.of(self.document["node"][node]["image"], program)
 
     def program(self, node: int) -> Program:
         program = self.programs.of(node) if self.programs else None

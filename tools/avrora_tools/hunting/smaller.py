@@ -3,7 +3,7 @@ and inputs, a shorter run. The scenario without the changes must be right each t
 import dataclasses
 import itertools
 from collections.abc import Callable, Iterator, Sequence
-from typing import TypeGuard, TypeVar
+from typing import TypeVar
 
 from avrora_tools.hunting.changes import (
     Change,
@@ -93,15 +93,16 @@ class Smaller:
 
     def smaller(self, scene: Scene, failure: Failure) -> tuple[Scene, Failure]:
         """The smallest that was found, and how it fails."""
+        whole = failure
         steps = (fewer_changes, shorter_cuts, shorter, self.fewer_nodes, fewer_links, fewer_bytes, shorter)
         for step in (*steps, fewer_changes):
-            scene, failure = self.stepped(scene, failure, step)
+            scene, failure = self.stepped(scene, failure, whole, step)
         return scene, failure
 
     def stepped(
-        self, scene: Scene, failure: Failure, step: Callable[[Scene], Iterator[Scene]]
+        self, scene: Scene, failure: Failure, whole: Failure, step: Callable[[Scene], Iterator[Scene]]
     ) -> tuple[Scene, Failure]:
-        """Takes the first smaller scene that fails in the same way, as long as there is one."""
+        """Takes the first smaller scene that fails as the whole one did, as long as there is one."""
         tried: set[int] = set()
         goes_on = True
         while goes_on:
@@ -111,7 +112,7 @@ class Smaller:
                 if self.left <= 0 or self.is_over():
                     return scene, failure
                 tried.update(hash(repr((it.document, it.trial.changes))) for it in others)
-                alike = [(it, found) for it, found in zip(others, self.failures(others)) if is_alike(found, failure)]
+                alike = [(it, found) for it, found in zip(others, self.failures(others)) if found and found.is_alike(whole)]
                 if alike:
                     (scene, failure), goes_on = alike[0], True
                     break
@@ -155,10 +156,6 @@ def fewer_with_part(scene: Scene) -> Iterator[Scene]:
         if kept:
             document = alone_node(scene.document, node)
             yield dataclasses.replace(scene, document=document, trial=scene.trial.with_changes(kept))
-
-
-def is_alike(found: Failure | None, failure: Failure) -> TypeGuard[Failure]:
-    return found is not None and found.cause() == failure.cause()
 
 
 def pieces(things: Sequence[Change]) -> Iterator[list[Change]]:

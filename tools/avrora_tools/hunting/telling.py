@@ -9,7 +9,7 @@ from avrora_tools.hunting.changes import Cut, Document, Input
 from avrora_tools.hunting.corpus import Corpus
 from avrora_tools.hunting.hunt import Hunt
 from avrora_tools.hunting.kinds import MOST_CUTS
-from avrora_tools.hunting.races import HANDLER
+from avrora_tools.hunting.races import HANDLER, Races
 from avrora_tools.hunting.races import NAME as ARRIVALS
 from avrora_tools.hunting.smaller import Scene
 from avrora_tools.hunting.trials import processor_seconds
@@ -27,7 +27,7 @@ def print_hunt(hunt: Hunt, corpus: Corpus, scenario: str, check: Sequence[str]) 
     for number, finding in enumerate(hunt.findings, 1):
         if finding.scene:
             finding.path = corpus.found(number)
-            write_scene(finding.path, finding.scene, finding, os.path.dirname(scenario))
+            write_scene(finding.path, finding.scene, finding, hunt.seed, os.path.dirname(scenario))
         print_finding(hunt, number, finding, scenario, check)
     print(f"not covered: {'; '.join(not_covered(hunt))}", flush=True)
 
@@ -41,9 +41,9 @@ def print_tried(hunt: Hunt) -> None:
     )
     if hunt.limit.signal is not None:
         print(f"cut: {hunt.limit.reason()}")
-    for name in dict.fromkeys([*(kind.name for kind in hunt.kinds), ARRIVALS]):
+    for name, covers in {**{kind.name: kind.covers for kind in hunt.kinds}, ARRIVALS: Races.covers}.items():
         if hunt.tried[name] or hunt.failed[name]:
-            print(f"  {name:<10} {hunt.tried[name]:>7,} tried {hunt.failed[name]:>6,} failed")
+            print(f"  {name:<10} {hunt.tried[name]:>7,} tried {hunt.failed[name]:>6,} failed  {covers}")
 
 
 def print_finding(hunt: Hunt, number: int, finding: Finding, scenario: str, check: Sequence[str]) -> None:
@@ -62,6 +62,8 @@ def print_finding(hunt: Hunt, number: int, finding: Finding, scenario: str, chec
         more = len(finding.lines) - MOST_LINES
         others = f" and {more} lines more" if more > 0 else ""
         print(f"   runs here alone: {joined(finding.lines[:MOST_LINES])}{others}")
+    for it in finding.overwritten:
+        print(f"   {it}")
     for pair in finding.uneven:
         print(f"   {pair}")
     for command in commands(finding, scenario, check):
@@ -124,11 +126,13 @@ def right_name(name: str) -> str:
     return f"{stem}-right{ending}"
 
 
-def write_scene(path: str, scene: Scene, finding: Finding, folder: str) -> None:
+def write_scene(path: str, scene: Scene, finding: Finding, seed: int, folder: str) -> None:
     """Writes the failing scenario, and the right one beside it; images are named from where they are."""
     changes = "".join(f"# - {change}\n" for change in scene.trial.changes)
     right_one = os.path.basename(right_name(path))
-    note = f"# {files.printable(finding.failure.text)}.\n# What is otherwise than in {right_one}:\n{changes}"
+    drawn = finding.first or scene.trial
+    found = f"# Drawn by seed {seed} of `hunt`, {drawn.kind}: {drawn.what}.\n"
+    note = f"# {files.printable(finding.failure.text)}.\n{found}# What is otherwise than in {right_one}:\n{changes}"
     place = os.path.dirname(path)
     files.write_whole(path, note + scenario_text(with_images(scene.failing(), folder, place)))
     right = "# The scenario beside it, in which nothing is varied and all is right.\n"

@@ -5,6 +5,7 @@ import re
 from collections.abc import Sequence
 from dataclasses import dataclass
 
+from avrora_tools.hunting.trials import Scenes
 from avrora_tools.observing.running import Network
 from avrora_tools.observing.searching import Watched
 from avrora_tools.programs import Programs
@@ -12,7 +13,6 @@ from avrora_tools.scenarios import Scenario
 from avrora_tools.sweeping.always import AlwaysCheck, Breach, watched
 from avrora_tools.sweeping.events import Move
 from avrora_tools.sweeping.simulation import NO_WINDOW, ProcessTails, Simulator, Window
-from avrora_tools.hunting.trials import Scenes
 
 BROKEN = re.compile(rb"^broken (.*)$", re.MULTILINE)
 
