@@ -5,14 +5,14 @@ import ast
 import operator
 import os
 import re
-from collections.abc import Callable, Iterator
+from collections.abc import Callable, Iterator, Sequence
 from typing import NamedTuple
 
 from avrora_tools import cli, expressions, files
 from avrora_tools.errors import BadInput
 from avrora_tools.events import KINDS, End, Sent, Stop
 from avrora_tools.fields import EVERY, NUMBER, Span, cover, joined, span_of, whole
-from avrora_tools.patterns import ANY_ROW, LIMITS, Pattern
+from avrora_tools.patterns import ANY_ROW, LIMITS, Extent, Pattern
 from avrora_tools.scenarios import BYTE_TIME
 
 COMPARISONS: dict[str, Callable[[int, int], bool]] = {
@@ -253,44 +253,62 @@ def why_out_of_order(statement: Expected, above: list[Expected]) -> str | None:
     return None
 
 
-def why_count_is_certain(count: Count, only: Only, nodes: int | None) -> str | None:
-    """Why a comparison holds of the rows of each trace, or of none; of those with so many nodes where they are
-    known."""
+def why_count_is_certain(count: Count, only: Only, extent: Extent | None) -> str | None:
+    """Why a comparison holds of the rows of each trace, or of none; of those of an extent where it is known."""
+    nodes = extent.nodes if extent else None
     looked_at = (only.nodes or frozenset(range(cli.MAX_NODES))) & frozenset(range(nodes or cli.MAX_NODES))
     seen_kinds = count.pattern.kinds & (only.kinds or count.pattern.kinds)
     least = 0
     if End.kind in seen_kinds and (not count.span or cover([count.span], [LIMITS])):
         least = len(count.pattern.certain_nodes() & looked_at & frozenset(range(nodes or 1)))
-    most = most_rows(count, seen_kinds, len(count.pattern.nodes & looked_at))
-    outcomes = {
-        COMPARISONS[count.comparison](number, count.wanted)
-        for number in {
-            least,
-            max(least, count.wanted - 1),
-            max(least, count.wanted),
-            max(least, count.wanted + 1),
-            most or 0,
-        }
-        if number >= least and (most is None or number <= most)
-    }
+    nodes_seen = len(count.pattern.nodes & looked_at)
+    most = most_rows(count, seen_kinds, nodes_seen, None)
+    outcomes = outcomes_of(count, least, most)
+    if len(outcomes) == 2 and extent:  # a run that is too short to meet it does not meet it
+        here = most_rows(count, seen_kinds, nodes_seen, extent)
+        if outcomes_of(count, least, here) == {True}:
+            most, outcomes = here, {True}
     if len(outcomes) == 2:
         return None
     what = f"at least {least}" if most is None else f"{least}" if least == most else f"{least} to {most}"
     return f"each trace has {what} such rows, so it {'cannot fail' if True in outcomes else 'cannot be met'}"
 
 
-def most_rows(count: Count, kinds: frozenset[str], nodes: int) -> int | None:
-    """How many rows of some kinds a count can have at most; None where there is no end of them. A node stops and ends
-    once, and has one row of a rank in a cycle."""
-    if kinds <= {End.kind, Stop.kind}:
-        return len(kinds) * nodes
-    cycles = 0
-    for span in joined([both for one in count.pattern.cycles if (both := one.both(count.span or EVERY))]):
-        if span.last is None:
+def outcomes_of(count: Count | Lines, least: int, most: int | None) -> set[bool]:
+    """What a comparison may come to, of at least and at most so many."""
+    numbers = {least, count.wanted - 1, count.wanted, count.wanted + 1, most or 0}
+    return {
+        COMPARISONS[count.comparison](number, count.wanted)
+        for number in numbers
+        if max(least, number) == number and (most is None or number <= most)
+    }
+
+
+def most_rows(count: Count, kinds: frozenset[str], nodes: int, extent: Extent | None) -> int | None:
+    """How many rows of some kinds a count can have at most, in a trace of an extent where it is known; None where there
+    is no end of them. A node stops and ends once, and has one row of a rank in a cycle."""
+    spans = joined([both for one in count.pattern.cycles if (both := one.both(count.span or EVERY))])
+    ranks: dict[str, int] = {}
+    for kind in kinds:
+        most = 1 if kind in (End.kind, Stop.kind) else cycles_of(kind, spans, extent)
+        if most is None:
             return None
-        cycles += span.last - span.first + 1
-    ranks = {KINDS[kind].rank: -(-cycles // BYTE_TIME.start) if kind == Sent.kind else cycles for kind in kinds}
+        most = -(-most // BYTE_TIME.start) if kind == Sent.kind else most
+        rank = kind if kind in (End.kind, Stop.kind) else str(KINDS[kind].rank)
+        ranks[rank] = max(most, ranks.get(rank, 0))
     return nodes * sum(ranks.values())
+
+
+def cycles_of(kind: str, spans: Sequence[Span], extent: Extent | None) -> int | None:
+    """In how many cycles of some spans a row of a kind may stand; None where they do not end."""
+    room = extent.of(kind) if extent else EVERY
+    found = 0
+    for span in spans:
+        both = span.both(room) if room else None
+        if both and both.last is None:
+            return None
+        found += both.last - both.first + 1 if both and both.last is not None else 0
+    return found
 
 
 def without_comment(line: str) -> str:

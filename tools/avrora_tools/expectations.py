@@ -24,6 +24,7 @@ from avrora_tools.cases import (
     Only,
     Statement,
     Text,
+    outcomes_of,
     read_case,
     why_count_is_certain,
 )
@@ -604,15 +605,22 @@ def why_impossible(statement: Statement, extent: Extent, only: Only) -> str:
     """Why no row can meet a statement, whatever its place, or why each trace meets it; "" where neither is so."""
     if isinstance(statement, Expected):
         return statement.pattern.why_not(extent)
-    if isinstance(statement, Count) and (why := why_count_is_certain(statement, only, extent.nodes)):
+    if isinstance(statement, (Never, Count)) and (why := statement.pattern.why_not(extent, statement.span or EVERY)):
         return why
-    if isinstance(statement, (Never, Count)):
-        return statement.pattern.why_not(extent, statement.span or EVERY)
+    if isinstance(statement, Count):
+        return why_count_is_certain(statement, only, extent) or ""
     if isinstance(statement, (Text, Lines)) and statement.node >= extent.nodes:
         return f"the trace has no node {statement.node}, but nodes 0 to {extent.nodes - 1}"
     if isinstance(statement, (Text, Lines)) and statement.span and statement.span.first >= extent.limit:
         return f"the trace ends in cycle {extent.limit}, and not within {statement.span}"
-    return ""
+    return why_lines_are_certain(statement, extent) if isinstance(statement, Lines) else ""
+
+
+def why_lines_are_certain(lines: Lines, extent: Extent) -> str:
+    """Why each trace of an extent meets a count of lines: a node writes at most a byte a cycle."""
+    span = (lines.span or EVERY).both(Span(0, max(extent.limit - 1, 0)))
+    most = span.last - span.first + 1 if span and span.last is not None else 0
+    return f"at most {most} lines can be written, so it cannot fail" if outcomes_of(lines, 0, most) == {True} else ""
 
 
 def refuse_endless(case: Case) -> None:

@@ -39,7 +39,8 @@ def watched(names: Sequence[str]) -> list[str]:
 
 def named_by(name: str) -> Iterator[str]:
     if name.endswith(".toml"):
-        yield from (os.path.join(os.path.dirname(name), image) for image in Scenario.load(name).images)
+        scenario = Scenario.of_text(files.read_named_text(name), "")  # which a case may name
+        yield from (os.path.join(os.path.dirname(name), image) for image in scenario.images)
     elif name.endswith(".expect"):
         case = cases.read_case(name)
         yield from (one.path for one in case.statements if isinstance(one, cases.Golden))

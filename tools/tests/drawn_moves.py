@@ -32,12 +32,17 @@ FLAGS = [
 FIRST, MOVES, AFTER = 280_000, 150, 5_000
 
 HEAD = """#include "serial.h"
+#include <setjmp.h>
 #include <util/atomic.h>
 volatile uint16_t count, other;
-volatile uint8_t k, got, ring[8], at;
+volatile uint8_t k, got, ring[8], at, keep, task[64];
+jmp_buf before;
 volatile uint8_t *volatile sreg = &SREG, *volatile port = &UDR0, *volatile state = &UCSR0A, *volatile place = ring;
 static void __attribute__((noinline)) frame(uint8_t n) { volatile uint8_t local[11]; local[n % 11] = n;
     k += local[n % 11]; }
+static uint8_t __attribute__((noinline)) lock(void) { uint8_t s = SREG; cli(); return s; }
+static void __attribute__((noinline)) unlock(uint8_t s) { SREG = s; }
+static void __attribute__((noinline)) jump(void) { longjmp(before, 1); }
 """
 
 # What main does over and over, what the handlers do, and what goes before.
@@ -45,6 +50,18 @@ STEPS = [
     "k++;",
     "other = count;",
     "frame(k);",
+    "{ uint8_t s = lock(); count++; unlock(s); }",
+    "{ keep = SREG; cli(); count += 2; SREG = keep; }",
+    "cli(); keep = SREG; keep |= 0x80; k++; SREG = keep; k++;",
+    "if (!setjmp(before)) { cli(); k++; jump(); } k++; sei();",
+    # the copy of SREG on a stack of its own is written by its address
+    'asm volatile("cli\\n in r18,0x3d\\n in r19,0x3e\\n ldi r24,lo8(task+63)\\n ldi r25,hi8(task+63)\\n '
+    'out 0x3e,r25\\n out 0x3d,r24\\n in r24,0x3f\\n push r24\\n ldi r24,0x80\\n sts task+63,r24\\n pop r24\\n '
+    'out 0x3f,r24\\n nop\\n nop\\n nop\\n cli\\n out 0x3e,r19\\n out 0x3d,r18\\n sei"'
+    ' ::: "r18", "r19", "r24", "r25", "memory");',
+    'asm volatile("cli\\n in r24,0x3f\\n set\\n bld r24,7\\n out 0x3f,r24\\n nop\\n nop\\n clt\\n sei" ::: "r24");',
+    'asm volatile("cli\\n in r18,0x3f\\n movw r20,r18\\n ori r20,0x80\\n movw r18,r20\\n out 0x3f,r18\\n nop\\n sei"'
+    ' ::: "r18", "r19", "r20", "r21");',
     "{ uint8_t s = SREG; cli(); count++; SREG = s; }",
     "{ uint8_t s = *sreg; cli(); other++; *sreg = s; }",
     "*sreg &= 0x7F; k += 3; *sreg |= 0x80;",

@@ -5,6 +5,9 @@ import subprocess
 
 import pytest
 
+from avrora_tools.commands.vcd import words_of
+from avrora_tools.observing.quantities import Quantity
+from avrora_tools.variables import UNSIGNED_CHAR, Base
 from firmware import compiled, needs_compiler, needs_program
 from support import run_tool
 
@@ -236,6 +239,14 @@ def test_waves_have_the_values_of_the_source(folder):
     assert [it for it in at[codes["box.state"]] if it[0]] == told["box.state"]
     assert [it for it in at[codes["ratio"]] if it[0]] == told["ratio"]
     assert at[codes["box.level"]][-1][1] == f"{-300 & 0xFFFF:b}"
+
+
+def test_a_variable_has_a_wave_of_its_own_whatever_it_is_called():
+    """A dump has a variable `sent` for the radio already, and no letters beyond those of ASCII."""
+    kinds = [("sent", 0x100), ("sample", 0x102), ("wide", 0x104), ("b\u00e4", 0x106), ("b\u00f6", 0x107), ("b_", 0x108)]
+    found = words_of([Quantity(name, at, Base("uint8_t", 1, UNSIGNED_CHAR)) for name, at in kinds])
+    assert list(found.values()) == ["sent@0100", "sample@0102", "wide", "b_", "b_@0107", "b_@0108"]
+    assert words_of([Quantity("clash", 0x100, Base("uint8_t", 1, UNSIGNED_CHAR), 2, 3)]) == {"clash": "clash@0100.3"}
 
 
 def test_waves_want_a_scenario(folder):

@@ -456,6 +456,11 @@ class Refused(unittest.TestCase):
             ("count == 2: * * end *", "line 1: each trace has 2 such rows, so it cannot fail"),
             ("count > 1: * * *", "line 1: each trace has at least 2 such rows, so it cannot fail"),
             ("count <= 2: * * stop *", "line 1: each trace has 0 to 2 such rows, so it cannot fail"),
+            ("count < 1000: * 0 serial *", "line 1: each trace has 0 to 99 such rows, so it cannot fail"),
+            ("within 90..200: count <= 18: * * serial *", "each trace has 0 to 18 such rows, so it cannot fail"),
+            ("count != 3: * * sent *", "each trace has 0 to 2 such rows, so it cannot fail"),
+            ("text 0 lines <= 99", "at most 99 lines can be written, so it cannot fail"),
+            ("within 95..: text 0 lines != 5", "at most 4 lines can be written, so it cannot fail"),
         ):
             with self.subTest(line), self.assertRaises(BadInput) as refusal:
                 outcome(line)

@@ -146,15 +146,16 @@ def test_behind_a_store_through_a_pointer_the_flag_and_its_copies_are_not_known(
     assert flag.may_enter()
 
 
-@pytest.mark.parametrize("store", ["sts 0x10FE, r24", "sts 0x0018, r1"])
+# A stack lies at the end of the SRAM, or where a program has put it.
+@pytest.mark.parametrize("store", ["sts 0x10FE, r24", "sts 0x0100, r24", "sts 0x0018, r1"])
 def test_a_store_to_the_stack_or_to_a_register_forgets_the_copy(store):
     flag = InterruptFlag(True)
-    for text in ("in r24, 0x3F", "push r24", store, "mov r20, r24", *(["pop r20"] if "0x10" in store else [])):
+    for text in ("in r24, 0x3F", "push r24", store, "mov r20, r24", *(["pop r20"] if "r24" in store else [])):
         flag.execute(text)
     flag.execute("out 0x3F, r20")
     assert not flag.is_clear
     flag = InterruptFlag(True)
-    for text in ("in r24, 0x3F", "push r24", "sts 0x0200, r1", "pop r20", "out 0x3F, r20"):
+    for text in ("in r24, 0x3F", "push r24", "sts 0x0090, r1", "pop r20", "out 0x3F, r20"):
         flag.execute(text)
     assert flag.is_clear
 

@@ -30,9 +30,10 @@ DESCRIPTION = """Writes a trace as a value change dump (VCD, IEEE 1364), for GTK
   function    with -e: the function that the instruction lies in
   stopped     1 from the node's stop on
 With --watch, -s and -e there are variables and registers too, by their names: enumerations by the names of their
-values, floating-point numbers as real ones, each from the cycle behind its write on. The simulator runs for them once
-more. A time unit is a cycle, and a picosecond where --hz tells the clock. It takes a trace with its end rows, also one
-of `avrora resume` and of the tool window, or with --head the beginning of one."""
+values, floating-point numbers as real ones, each from the cycle behind its write on. One of a name above gets its
+address behind it: sent@0104. The simulator runs for them once more. A time unit is a cycle, and a picosecond where --hz
+tells the clock. It takes a trace with its end rows, also one of `avrora resume` and of the tool window, or with --head
+the beginning of one."""
 
 REAL = "real"
 
@@ -233,8 +234,9 @@ class Waves:
 
     def __init__(self, observed: Observed, network: Network) -> None:
         self.observed, self.network = observed, network
+        self.words = {node: words_of(found) for node, found in observed.quantities.items()}
         self.kinds: dict[int, Kinds] = {
-            node: {showing.vcd_word(one.name): kind_of(one) for one in found}
+            node: {self.words[node][one.name]: kind_of(one) for one in found}
             for node, found in observed.quantities.items()
         }
 
@@ -242,7 +244,7 @@ class Waves:
         """The values at the beginning of the run."""
         for (node, number), held in self.observed.values(self.observed.run.first).items():
             one = self.observed.quantities[node][number]
-            writer.put(node, showing.vcd_word(one.name), self.value(node, one, held))
+            writer.put(node, self.words[node][one.name], self.value(node, one, held))
 
     def value(self, node: int, one: Quantity, held: bytes) -> int | float | str:
         kind = kind_of(one)
@@ -257,6 +259,20 @@ class Waves:
         run = self.observed.run
         for moment in self.observed.moments(run.first, run.limit):
             yield moment.cycle + 1, moment
+
+
+def words_of(quantities: Sequence[Quantity]) -> dict[str, str]:
+    """A word of the dump for each quantity, by its name. One gets its address behind it where the dump has a variable
+    of its own by that name, such as `sent`, or where another name differs in no letter that a dump may have."""
+    found: dict[str, str] = {}
+    taken = set(VARIABLES)
+    for one in quantities:
+        word = showing.vcd_word(one.name)
+        if word in taken:
+            word += f"@{one.address:04X}" + (f".{one.low_bit}" if one.bits else "")
+        taken.add(word)
+        found[one.name] = word
+    return found
 
 
 def kind_of(one: Quantity) -> int | str:
@@ -330,7 +346,7 @@ def run(arguments: argparse.Namespace) -> int:
 def put_change(writer: Writer, waves: Waves, change: tuple[int, Moment]) -> None:
     cycle, moment = change
     writer.advance(cycle)
-    name = showing.vcd_word(moment.quantity.name)
+    name = waves.words[moment.node][moment.quantity.name]
     writer.put(moment.node, name, waves.value(moment.node, moment.quantity, moment.held))
 
 

@@ -34,7 +34,7 @@ class Corpus:
                 raise BadInput(f"{files.shown(path)}: of another version of this tool")
             self.seed, self.rounds = int(found["seed"]), int(found["rounds"])
             self.failed = [trial_of(record) for record in found["failed"][:MOST_TRIALS]]
-        except (ValueError, KeyError, TypeError) as fault:
+        except (ValueError, KeyError, TypeError, OverflowError, RecursionError) as fault:
             raise BadInput(f"{files.shown(path)}: no corpus of a hunt: {type(fault).__name__}") from None
 
     def rounds_of(self, seed: int) -> int:

@@ -2,8 +2,8 @@
 
 A trace shows no registers. That I is clear follows from CLI and entries, and from copies of SREG that a program keeps
 in a register or on the stack and writes back. A store through a pointer may write SREG, a register or what lies on the
-stack, so behind it nothing of these is certain; a store to an address at which stacks lie is one to the stack. Whatever
-is not certain counts as set. """
+stack, so behind it nothing of these is certain; a store to an address of the SRAM may be one to the stack. Whatever is
+not certain counts as set. """
 import re
 
 from avrora_tools.traces import Row
@@ -24,7 +24,7 @@ CALLS = frozenset("call rcall icall".split())
 STORES = frozenset(("st", "std"))
 
 REGISTERS_END = 0x20  # data addresses below are the general registers
-STACKS_BEGIN = 0xF00  # and those from here on may be the stack
+SRAM_BEGINS = 0x100  # and wherever from here on the stack may lie, as where tasks have stacks of their own
 
 COUNTED_POINTER = re.compile(r"(?:-([XYZ])|([XYZ])\+)(?:$|,)")
 
@@ -70,7 +70,7 @@ class InterruptFlag:
             self.is_clear, self.owed = False, before
             self.copies.clear()
             self.forget_stack()
-        elif name == "sts" and int(operands[0], 16) >= STACKS_BEGIN:
+        elif name == "sts" and int(operands[0], 16) >= SRAM_BEGINS:
             self.forget_stack()
         self.move_stack(name, operands)
         self.change_registers(name, operands, before)
