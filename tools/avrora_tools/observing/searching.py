@@ -1,7 +1,8 @@
 """Searches of a run for changes of quantities: all of a span, the last before a cycle, the first that breaks a
 condition."""
 import dataclasses
-from collections.abc import Iterator, Mapping, Sequence
+import itertools
+from collections.abc import Iterable, Iterator, Mapping, Sequence
 from dataclasses import dataclass
 
 from avrora_tools.debugging.history import History
@@ -67,14 +68,18 @@ class Judge:
     def judged(self, one: Watched) -> bool:
         return one.condition.holds(self.numbers[one.node])
 
-    def take(self, moment: Moment) -> Iterator[tuple[int, bool]]:
-        """The numbers of the conditions that this new value turns, and whether they hold then."""
-        self.put(moment.node, moment.quantity, moment.held)
-        for number in self.using.get((moment.node, moment.quantity.name), ()):
+    def take(self, moments: Iterable[Moment]) -> Iterator[tuple[int, bool, Moment]]:
+        """The numbers of the conditions that the new values of one cycle turn, whether they hold then, and the last of
+        the values that each is on. One instruction may write several: none of them is judged without the others."""
+        last: dict[int, Moment] = {}
+        for moment in moments:
+            self.put(moment.node, moment.quantity, moment.held)
+            last |= dict.fromkeys(self.using.get((moment.node, moment.quantity.name), ()), moment)
+        for number, moment in sorted(last.items()):
             holds = self.judged(self.conditions[number])
             if holds != self.holds[number]:
                 self.holds[number] = holds
-                yield number, holds
+                yield number, holds, moment
 
     def broken(self, number: int, cycle: int, moment: Moment | None) -> Broken:
         one = self.conditions[number]
@@ -93,9 +98,9 @@ def turns(
     for number, holds in enumerate(judge.holds):
         yield number, holds, judge.broken(number, first, None)
     if first < end:
-        for moment in observed.moments(first, end):
-            for number, holds in judge.take(moment):
-                yield number, holds, judge.broken(number, moment.cycle + 1, moment)
+        for cycle, moments in itertools.groupby(observed.moments(first, end), lambda moment: moment.cycle):
+            for number, holds, moment in judge.take(moments):
+                yield number, holds, judge.broken(number, cycle + 1, moment)
 
 
 def breaks(run: Run, conditions: Sequence[Watched], first: int, end: int, torn: bool = False) -> Iterator[Broken]:
