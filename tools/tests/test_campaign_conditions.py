@@ -105,7 +105,7 @@ def test_a_run_that_varies_is_looked_at_too(folder):
 
 
 def test_the_program_of_nodes_that_are_named_and_of_a_network(folder):
-    network = '[[run]]\nexpect = "w.expect"\n[run.network]\ntopology = "line:3"\nimages = "watched.hex"\ncycles = 3_000\n'
+    network = '[[run]]\nexpect = "w.expect"\n[run.network]\nshape = "line"\nimages = "watched.hex*3"\ncycles = 3_000\n'
     status, out, err = campaign(folder, "always 2 ticks < 3\n", text=network)
     assert status == 1 and "`ticks < 3` does not hold at node 2 in cycle" in out, err
     (folder / "other.elf").write_bytes((folder / "watched.elf").read_bytes())

@@ -11,7 +11,7 @@ from avrora_tools.observing.conditions import Reader
 from avrora_tools.observing.places import Change, Kind, Place, change_of, is_seen, text_of
 from avrora_tools.observing.quantities import Names, Quantity
 from avrora_tools.observing.searching import Judge, Watched
-from avrora_tools.observing.settling import SETTLING, Settler
+from avrora_tools.observing.settling import SETTLING, Moment, Settler
 from avrora_tools.programs import Program
 from avrora_tools.variables import UNSIGNED, UNSIGNED_CHAR, Base
 
@@ -278,3 +278,15 @@ def test_a_judge_tells_each_turn(names):
     changes = (Change(cycle, Place(0, Kind.BYTE, one.address), byte) for cycle, byte in ((5, 2), (9, 3), (12, 4), (20, 1)))
     turned = [(moment.cycle, value) for moment in settler.moments(changes) for _, value, _ in judge.take([moment])]
     assert judge.holds == [True] and turned == [(9, False), (20, True)]
+
+
+def test_what_one_instruction_writes_is_judged_together(names):
+    """MOVW writes two registers in one cycle: of the two values there is none that the node never had."""
+    condition = Watched(0, Reader(names).read("r24 == r25"))
+    registers = [names.quantity("r24"), names.quantity("r25")]
+    judge = Judge([condition], {0: registers}, {(0, 0): b"\x07", (0, 1): b"\x07"})
+    both = [Moment(9, 0, one, b"\x08", b"\x07") for one in registers]
+    assert list(judge.take(both)) == []
+    assert list(judge.take(both[:1])) == [] and judge.holds == [True]
+    lower = Moment(12, 0, registers[1], b"\x01", b"\x08")
+    assert list(judge.take([lower])) == [(0, False, lower)]

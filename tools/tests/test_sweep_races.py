@@ -235,3 +235,35 @@ def test_a_step_takes_some_moves_and_tells_the_classes_that_were_not_run(races):
 def test_bad_words_have_status_two(races, words):
     status, out, err = sweep(races, "torn.toml", *words)
     assert (status, out) == (2, "") and err.count("\n") == 1
+
+
+# A race that an invariant tells, the words of a sweep without a look at any output, the condition, how many arrivals of
+# how many break it, in which moves, and the text of the line that wrote the value. The other races of the folder spoil a
+# local copy in registers or miss a clock's tick: no condition on variables tells those.
+INVARIANTS = [
+    # While interrupts are on, the queue is empty or its last entry is written.
+    (
+        "alarm", ["--input", "2:1=443_340..443_350", "--until", "460_000"],
+        "2 !SREG.I || queued == 0 || queue[(first + queued - 1) % 8].kind != 0", "443,346 to 443,350", "queued++;",
+    ),
+    # Main may have moved `tail` and not `count` yet; the other way round an entry is forgotten.
+    (
+        "ring", ["--start", "0=271_280..271_300", "--until", "280_000"],
+        "0 !SREG.I || (head + 32 - tail - count) % 16 != 1", "271,290 to 271,292", "/* the race */",
+    ),
+    # No command still waits as the timer ticks. What is written then is the tick, so the line is that of its handler.
+    ("wake", ["--start", "0=514_200..514_220", "--until", "770_000"], "0 !tick || !command", "514,208 to 514,211", "tick = 1;"),
+]  # fmt: skip
+
+
+@needs_compiler
+@pytest.mark.parametrize("name, words, condition, moves, text", INVARIANTS, ids=[row[0] for row in INVARIANTS])
+def test_an_invariant_finds_the_race_and_no_output_is_looked_at(races, name, words, condition, moves, text):
+    status, out, err = sweep(races, f"{name}.toml", *words, "-e", f"{name}.elf", "--always", condition)
+    assert status == 1, err
+    assert re.findall(r"^   moves: (.*)", out, re.M) == [moves]
+    wrote = re.search(rf"does not hold: .*, by .*{name}\.c:(\d+)$", out, re.M)
+    assert text in (RACES / f"{name}.c").read_text().splitlines()[int(wrote[1]) - 1]
+    assert "did not write" not in out
+    status, out, err = sweep(races, f"{name}-fixed.toml", *words, "-e", f"{name}-fixed.elf", "--always", condition)
+    assert (status, bool(re.search(r"^0 of ([\d,]+) classes fail; \1 runs", out, re.M))) == (0, True), err

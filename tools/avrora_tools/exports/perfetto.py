@@ -59,7 +59,11 @@ class Timeline:
     def events(self, rows: Iterable[TraceRow]) -> Iterator[Json]:
         yield from self.names()
         last = 0
+        end = self.scenario.window[1]
         for cycle, node, event in rows:
+            if cycle >= end and last < end and not isinstance(event, (Instr, Enter)):
+                for one in self.depths:  # nothing of this is known behind the window
+                    yield from self.left(end, one)
             last = cycle
             yield from self.read(cycle, node, event)
         for node in self.depths:
@@ -173,8 +177,12 @@ class Timeline:
 
     def ended(self, cycle: int, node: int) -> Iterator[Json]:
         """What is open at a node ends here: it stopped, or the trace is over."""
-        yield from self.moved(cycle, node, [])
         yield from self.end_line(node)
+        yield from self.left(cycle, node)
+
+    def left(self, cycle: int, node: int) -> Iterator[Json]:
+        """What instructions tell ends here."""
+        yield from self.moved(cycle, node, [])
         since = self.sleeping.pop(node, None)
         if since is not None:
             yield self.span(since, cycle, node, Thread.PROCESSOR, "asleep")

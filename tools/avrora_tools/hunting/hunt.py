@@ -5,7 +5,7 @@ from collections import Counter
 from collections.abc import Callable, Iterator, Sequence
 from dataclasses import dataclass
 
-from avrora_tools.hunting.causes import Finding, Lines, Look, look_of
+from avrora_tools.hunting.causes import Finding, Lines, look_of
 from avrora_tools.hunting.changes import Document, Trial
 from avrora_tools.hunting.handing import Handing
 from avrora_tools.hunting.kinds import Facts, Kind, kinds_of

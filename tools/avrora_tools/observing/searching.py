@@ -75,7 +75,7 @@ class Judge:
         for moment in moments:
             self.put(moment.node, moment.quantity, moment.held)
             users |= dict.fromkeys(self.using.get((moment.node, moment.quantity.name), ()), moment)
-        for number, moment in users.items():
+        for number, moment in sorted(users.items()):
             holds = self.judged(self.conditions[number])
             if holds != self.holds[number]:
                 self.holds[number] = holds
