@@ -217,7 +217,7 @@ def test_a_condition_needs_a_run(folder):
     case.write_text("run watched.toml\nelf watched.elf\nalways 0 ticks < 3\n")
     (folder / "w.trace").write_text(run_tool("window", f"{folder}/watched.toml", "0", "3000")[1])
     status, output, errors = run_tool("expect", "--trace", f"{folder}/w.trace", str(case))
-    assert status == 2 and "judged by `expect` alone, over the run that the case names" in output + errors
+    assert status == 2 and "and not over a trace" in output + errors
 
 
 # ---- waves, and a state at a cycle
@@ -250,7 +250,9 @@ def test_a_variable_has_a_wave_of_its_own_whatever_it_is_called():
 
 
 def test_waves_want_a_scenario(folder):
-    status, _, errors = run_tool("vcd", "--watch", "wide", "-e", f"{folder}/watched.elf", f"{folder}/waves.trace")
+    trace = folder / "no_scenario.trace"
+    trace.write_text(run_tool("window", f"{folder}/watched.toml", "0", "3000")[1])
+    status, _, errors = run_tool("vcd", "--watch", "wide", "-e", f"{folder}/watched.elf", str(trace))
     assert status == 2 and "name it (-s)" in errors
 
 
