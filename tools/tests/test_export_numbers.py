@@ -287,7 +287,7 @@ def test_perfetto_has_the_cycles_of_profile_the_sends_and_who_heard_them(network
     flows = {(event["id"], event["pid"]) for event in events if event["ph"] == "f"}
     links = links_of(network)
     assert len(flows) == sum(clean + clashed for clean, clashed in links.values()) > 500
-    assert {flow for flow, _ in flows} <= {f"{node}-{cycle}" for node, cycle in sent}
+    assert {flow for flow, _ in flows} <= {f"{node}-{cycle:.0f}" for node, cycle in sent}
     valid(document, TRACE_EVENTS)
 
 

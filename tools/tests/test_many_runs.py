@@ -6,7 +6,7 @@ import shutil
 import pytest
 
 from avrora_tools.errors import BadInput
-from avrora_tools.reporting import campaign_sections, findings
+from avrora_tools.reporting import campaign_sections, case_sections, findings
 from avrora_tools.reporting.campaign_sections import Histogram, Values
 from avrora_tools.reporting.findings import Finding, Search
 from firmware import compiled, needs_compiler, needs_program
@@ -62,6 +62,21 @@ def test_findings_are_written_and_read(tmp_path):
     assert "4 of 10" in part.content and 'href="#514208@0"' in part.content and "avrora run x.toml" in part.content
     assert "nothing found" in findings.section(Search("Races")).content
     assert 'href="#514208' not in findings.section(SEARCH).content
+
+
+@pytest.mark.parametrize(
+    ("line", "place"),
+    [
+        ("> 114076 2 queued: 0 -> 1 by enqueue+0x28 alarm.c:27 in USART0_RX_vect", "#114076@2"),
+        ("+ 9367 1 heard 1 72 114", "#9367@1"),
+        ("c.expect, line 3: `queued == 0` does not hold at node 2 in cycle 114077: queued is 1", None),
+        ("> 114076 2 <b>queued</b>: 0 -> 1", "#114076@2"),
+    ],
+)
+def test_rows_and_values_of_a_case_lead_to_the_timeline(line, place):
+    shown = case_sections.line_of(line, True)
+    assert (f'href="{place}"' in shown) == (place is not None) and ("<a " in shown) == (place is not None)
+    assert "<b>" not in shown and "<a " not in case_sections.line_of(line, False)
 
 
 @pytest.mark.parametrize(

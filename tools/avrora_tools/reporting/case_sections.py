@@ -28,8 +28,8 @@ WORDS = {
     Status.CANNOT_WORK: ("no answer", "broken"),
 }
 
-# A row of a trace in what is told of a case, behind its sign.
-ROW = re.compile(rf"([>+ -]? ?)((\d{{1,13}}) (\d{{1,2}}) (?:{'|'.join(KINDS)})(?: .*)?)")
+# A row of a trace in what is told of a case, behind its sign; or a value that a node wrote.
+ROW = re.compile(rf"([>+ -]? ?)((\d{{1,13}}) (\d{{1,2}}) (?:(?:{'|'.join(KINDS)})(?: .*)?|\S+: .* -> .*))")
 
 MOST_TEXT = 200_000  # characters that are shown of a case
 
