@@ -13,7 +13,7 @@ from avrora_tools.hunting.corpus import Corpus
 from avrora_tools.hunting.handing import Overwritten
 from avrora_tools.hunting.kinds import NAMES, Cuts, Facts, kinds_of
 from avrora_tools.hunting.oracles import DOUBLED, LOST, SILENT, STOPPED, WRONG, Failure, Oracle, Reference
-from avrora_tools.hunting.races import stretches, sweep_command
+from avrora_tools.hunting.races import Races, Visit, stretches, sweep_command
 from avrora_tools.hunting.said import Burst, bursts_of, clashes_at, without_samples
 from avrora_tools.hunting.smaller import Scene, Smaller
 from avrora_tools.hunting.waiting import Failing, Waiting
@@ -319,6 +319,34 @@ def test_a_piece_of_work_has_a_limit_of_its_own():
     late = whole.part(0.9)
     now[0] = 100.0
     assert late.is_over() and not Limit().part(0.1).is_over()
+
+
+class Sweeping(Races):
+    """Sweeps nothing, and keeps what it was to sweep."""
+
+    def __init__(self, visits):
+        self.document, self.events, self.waiting, self.ready = DOCUMENT, [], iter([visits]), []
+        self.seen, self.unsayable, self.turns, self.is_wide, self.swept_ = set(), 0, 0, False, []
+
+    def moved(self, visit):
+        return visit.first != 9
+
+    def drawn(self, random_):
+        return Visit(InputByte(2, 1), 5_000, 8_000, frozenset())
+
+    def swept(self, visit, scenario, options, oracle, reference):
+        self.swept_.append((visit.first, options.per_place))
+        return []
+
+
+def test_fresh_code_is_swept_first_and_then_drawn_spans_too():
+    codes = [(1, 0x50), (2, 0x60), (3, 0x50), (4, 0x50), (9, 0x70), (5, 0x60)]
+    races = Sweeping([Visit(InputByte(2, 1), first, first + 9, frozenset([code])) for first, code in codes])
+    for _ in range(9):
+        races.turn(random.Random(1), None, None)
+    assert races.swept_[:2] == [(1, None), (2, None)] and races.unsayable == 1 and races.is_wide
+    assert [first == 5_000 for first, _ in races.swept_[2:]] == [True, False, True, False, True, False, True]
+    assert sorted(first for first, per_place in races.swept_[2:] if per_place is None) == [3, 4, 5]
 
 
 def test_a_sweep_of_what_fails():

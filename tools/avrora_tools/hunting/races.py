@@ -96,6 +96,7 @@ class Races:
         self.seen: set[tuple[str, frozenset[int]]] = set()
         self.unsayable = 0
         self.runs = 0
+        self.turns = 0
         self.is_wide = False
 
     def bytes_that_move(self) -> Iterator[InputByte]:
@@ -157,8 +158,12 @@ class Races:
         return (self.document["node"][visit.event.node]["image"], visit.addresses) in self.seen
 
     def turn(self, random_: random.Random, oracle: Oracle, reference: Reference) -> list[Finding]:
-        """Sweeps one visit; where there is none any more, a drawn span."""
+        """Sweeps one visit, or a drawn span: where no visit is left, and each second turn once all code was swept."""
+        self.turns += 1
         while visit := self.next_visit():
+            if self.is_known(visit) and self.turns % 2:
+                self.ready.insert(0, visit)
+                break
             if scenario := self.moved(visit):
                 self.seen.add((self.document["node"][visit.event.node]["image"], visit.addresses))
                 return self.swept(visit, scenario, Options(), oracle, reference)

@@ -156,8 +156,10 @@ def not_covered(hunt: Hunt) -> list[str]:
     else:
         if hunt.races.unsayable:
             missing.append(f"{hunt.races.unsayable} visits that no scenario and no state can say")
+        if hunt.races.ready:
+            missing.append(f"{len(hunt.races.ready)} visits of what is shared, and those of bytes behind")
         if not hunt.races.is_wide:
-            missing.append("arrivals elsewhere than between uses of what is shared, and not all of these")
+            missing.append("arrivals elsewhere than between uses of what is shared")
         missing.append(f"interrupts other than {HANDLER}")
     cuts = next((kind for kind in hunt.kinds if kind.name == "cuts"), None)
     left = len(getattr(cuts, "single", ()))
