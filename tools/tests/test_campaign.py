@@ -7,7 +7,6 @@ import re
 import signal
 import sqlite3
 import subprocess
-import sys
 import tomllib
 import unittest
 import xml.etree.ElementTree

@@ -5,7 +5,7 @@ import subprocess
 
 import pytest
 
-from support import SEED, TESTS, needs_program
+from support import SEED, TESTS
 from avrora_tools.errors import BadInput, CannotWork
 from avrora_tools.observing.conditions import Reader
 from avrora_tools.observing.places import Change, Kind, Place, change_of, is_seen, text_of

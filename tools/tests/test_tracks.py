@@ -273,7 +273,7 @@ def test_in_a_browser(folder):
     assert "<pre>" in done.stdout, done.stdout[-2000:]
     first, after, last, *rest, _ = done.stdout[done.stdout.index("<pre>") + 5 :].split("|")
     cycle = told_by_changes(folder, 0, "box.state")[0][0]
-    assert first.startswith("node 0 watched: box.state = ") and f"-n 0 -w 'box.state' --last-before" in first
+    assert first.startswith("node 0 watched: box.state = ") and "-n 0 -w 'box.state' --last-before" in first
     assert f"box.state = BUSY, before IDLE in cycle {cycle:,}" in first + after
     assert last.startswith("node 0 watched: box.state = IDLE in cycle 0")
     assert rest == ["true", "2", "false"]
