@@ -333,7 +333,7 @@ def links_of(network):
 
 
 @needs_program("tshark", "tshark")
-@needs_program("capinfos", "wireshark-common")
+@needs_program("capinfos", "tshark")
 def test_tshark_reads_each_byte_that_was_sent_and_heard(network):
     path = network.export("pcapng", "--bytes", "--hz", "1_000_000_000")  # a cycle is a nanosecond
     said = subprocess.run(["capinfos", "-M", path], capture_output=True, text=True, check=True)
