@@ -28,11 +28,12 @@ DESCRIPTION = """Checks traces against cases, and writes TAP 13. A case is a tex
   within 0..40_000: text 4 "r"   before never, count and text
   golden relay.rows           all rows that are looked at are those of the file; `without cycles` behind it
 
-Files are sought from the case's folder. A trace must be whole, with an end row of each of its nodes. What no trace can
-meet is refused, and so is what this trace cannot: a node that it does not have, cycles behind its end or that the rows
-about it leave no room for, instructions and entries outside of its window. All that is not met is told. Status 0: all
-cases are met; 1: one is not; 2: one is no case, or there is no whole trace for it: a file or scenario is not there, is
-refused, or is cut off; 3: the simulator failed or took too long."""
+Files are sought from the case's folder. A trace must be whole, with an end row of each of its nodes; rows that were cut
+away at its front show only where its window or a sample needs them (tools/README.md). What no trace can meet is refused,
+and so is what this trace cannot: a node that it does not have, cycles behind its end or that the rows about it leave no
+room for, instructions and entries outside of its window. All that is not met is told. Status 0: all cases are met; 1:
+one is not; 2: one is no case, or there is no whole trace for it: a file or scenario is not there, is refused, or is cut
+off; 3: the simulator failed or took too long."""
 
 
 def configure(parser: argparse.ArgumentParser) -> None:

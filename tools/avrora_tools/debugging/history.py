@@ -82,7 +82,8 @@ class History:
         self.path = os.path.abspath(scenario)
         marks = {self.path: mark_of(self.path)}
         self.text = files.read_text(scenario).removeprefix(toml.BYTE_ORDER_MARK)
-        self.scenario = Scenario.of_text(self.text, files.shown(scenario))
+        self.scenario = Scenario.of_text(self.text, files.shown(scenario), self.place)
+        self.scenario.refuse_endless()
         self.limit, self.nodes = self.scenario.cycles, len(self.scenario.images)
         self.state_file = os.path.abspath(state) if state else None
         named = [os.path.join(self.place, image) for image in self.scenario.images]
