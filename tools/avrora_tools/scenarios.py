@@ -8,7 +8,7 @@ from typing import Any, NamedTuple
 from avrora_tools import toml
 from avrora_tools.cli import MAX_NODES
 from avrora_tools.errors import BadInput
-from avrora_tools.files import printable, read_text, shown
+from avrora_tools.files import printable, read_text, refuse_endless, shown
 from avrora_tools.toml import bare, statements
 
 # The causes of a refused scenario; of several that apply the simulator tells the first of this list.
@@ -88,8 +88,16 @@ class Scenario:
 
     @classmethod
     def load(cls, name: str) -> "Scenario":
-        """The scenario in the file `name`. Raises BadInput with the simulator's cause and the place of the fault."""
-        return cls.of_text(read_text(name), shown(name), os.path.dirname(name))
+        """The scenario in the file `name`. Raises BadInput with the simulator's cause and the place of the fault, and
+        where an image may have no end."""
+        found = cls.of_text(read_text(name), shown(name), os.path.dirname(name))
+        found.refuse_endless()
+        return found
+
+    def refuse_endless(self) -> None:
+        """Raises BadInput where an image is a device or a pipe, for which the simulator would wait."""
+        for image in dict.fromkeys(self.images):
+            refuse_endless(os.path.join(self.folder, image))
 
     @classmethod
     def of_text(cls, text: str, name: str, folder: str = "") -> "Scenario":

@@ -13,6 +13,7 @@ import os
 import resource
 import shutil
 import signal
+import stat
 import sys
 import tempfile
 
@@ -124,7 +125,14 @@ OF_THE_PROGRAM = [
     "inspect -e @relay.elf --force -g * @net.state",
     "gdb --at 9_000 -e @relay.elf @%",
     "window @% 3_000 3_050",
-    "energy -s @% @relay.trace",
+    "window @net.toml 0 100",
+    "gdb @net.toml",
+    "changes -w PORTB @net.toml",
+    "when @net.toml 0 00BC",
+    "sweep --latency 0-1=20..22 --jobs 1 @net.toml",
+    "hunt --rounds 1 --minutes 1 --jobs 1 --only losses @net.toml",
+    "report --no-sleep -o @out.html @net.toml",
+    "energy @relay.toml @% @relay.trace",
 ]
 
 STATE = "avrora state 1\ncycle 262144\ncore 0 {}\ntimers 0 {}\nports 0 {}\nio 0 {}\nsram 0 {}\nend\n".format(
@@ -230,6 +238,7 @@ def looked_at(seed, number, tell):
         if not os.path.lexists(f"{world.repo}/net.state"):
             world.write(f"{world.repo}/net.state", STATE)
         folder, words = words_of(world)
+        fill_pipe(world, words)
         status, out, errors = call(world, folder, words)
         for fault in faults(world, words, status, out, errors):
             found += 1
@@ -241,6 +250,14 @@ def looked_at(seed, number, tell):
         shutil.rmtree(place, ignore_errors=True)
         os.makedirs(place)
     return found
+
+
+def fill_pipe(world, words):
+    """A pipe that the victim names to be read is waited for, as one wants of it: here it is a file."""
+    name = f"{world.repo}/junit.xml"
+    if "--findings" in words and words[0] == "report" and os.path.exists(name) and stat.S_ISFIFO(os.stat(name).st_mode):
+        os.unlink(name)
+        world.write(name, "{}")
 
 
 def run(count=COUNT, seed=SEED, first=FIRST, tell=print):

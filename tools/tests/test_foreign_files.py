@@ -4,6 +4,8 @@ import shutil
 
 import pytest
 
+from avrora_tools import main
+from avrora_tools.errors import BadInput
 from support import DATA, run_tool
 
 SECRET = "token-hunter2 is the secret of this machine\nmore hunter2\n"
@@ -72,6 +74,33 @@ def test_what_has_no_end(place, name):
         case = source + ("\n" if "golden" in source else "\n* 0 sent *\n")
         status, out = expect(place, case, "--timeout", "60", "--avrora", str(simulator))
         assert status == 2 and "a device or a pipe, and no file" in out, source
+
+
+@pytest.mark.parametrize(
+    "words",
+    [
+        "changes -w PORTB net.toml",
+        "changes --breaks PORTB==0 net.toml",
+        "gdb net.toml",
+        "hunt --minutes 1 net.toml",
+        "inspect --at 5 net.toml",
+        "report --no-sleep -o page.html net.toml",
+        "sweep --start 0=100..103 net.toml",
+        "vcd --watch PORTB -s net.toml relay.trace",
+        "when net.toml 0 00BC",
+        "window net.toml 0 100",
+    ],
+)
+def test_an_image_that_has_no_end_is_not_waited_for(place, monkeypatch, words):
+    simulator = place / "avrora"
+    simulator.write_text("#!/bin/sh\nexit 9\n")
+    simulator.chmod(0o755)
+    monkeypatch.chdir(place)
+    monkeypatch.setenv("AVRORA_PROGRAM", str(simulator))
+    text = "cycles = 5_000\nnode = [{ image = 'pipe' }, { image = 'pipe' }]\nlink = [{ from = 0, to = 1 }]\n"
+    (place / "net.toml").write_text(text + "input = [{ node = 0, at = 100, hex = '41' }]\n")
+    with pytest.raises(BadInput, match="pipe: a device or a pipe, and no file"):
+        main.run(words.split())
 
 
 @pytest.mark.parametrize(

@@ -28,7 +28,8 @@ DESCRIPTION = """Checks traces against cases, and writes TAP 13. A case is a tex
   within 0..40_000: text 4 "r"   before never, count and text
   golden relay.rows           all rows that are looked at are those of the file; `without cycles` behind it
 
-Files are looked for from the case's folder. A trace must be whole, with an end row of each of its nodes. The tool
+Files are looked for from the case's folder. A trace must be whole, with an end row of each of its nodes.
+Rows that were cut away at its front show only where its window or a sample needs them (tools/README.md). The tool
 refuses what no trace can meet, and what this trace cannot: a node that it does not have, cycles behind its end, cycles
 that the rows about them leave no room for, instructions and entries outside of its window. It tells all that is not
 met. Status 0: all cases are met; 1: one is not; 2: one is no case, or there is no whole trace for it: a file or

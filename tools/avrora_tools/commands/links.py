@@ -20,7 +20,8 @@ DESCRIPTION = """Tells what became of the bytes on each link of a scenario:
 and what the samples of each node heard. It checks each sample against the sends of the trace, by the rules of
 docs/AIR.md with the scenario's latencies and spans, and that each node sends a byte at a time. The trace must be
 whole, with an end row of each node of the scenario; or with --state that of `avrora resume` from that state, which
-knows what was on the air. Status 0: all samples are as they should be; 1: one is not; 2: no scenario, no whole trace of
+knows what was on the air. Rows that were cut away at its front show only where the window or a sample needs them.
+Status 0: all samples are as they should be; 1: one is not; 2: no scenario, no whole trace of
 it, or a trace without any sample to check."""
 
 

@@ -184,7 +184,7 @@ def folder_of(scenario: str) -> str:
 def document_of(path: str) -> dict[str, object]:
     """A scenario's document. Raises BadInput where the simulator would refuse it."""
     text = files.read_text(path)
-    scenarios.Scenario.of_text(text, files.shown(path))
+    scenarios.Scenario.of_text(text, files.shown(path), os.path.dirname(path)).refuse_endless()
     return toml.loads(text)
 
 

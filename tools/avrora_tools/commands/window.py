@@ -49,7 +49,8 @@ def run(arguments: argparse.Namespace) -> int:
     first, end = arguments.first, arguments.end
     name = files.shown(arguments.scenario)
     text = files.read_text(arguments.scenario)
-    scenario = Scenario.of_text(text, name)
+    scenario = Scenario.of_text(text, name, os.path.dirname(arguments.scenario))
+    scenario.refuse_endless()
     if not first < end <= min(scenario.cycles, first + MAX_WINDOW):
         raise BadInput(
             f"[{first}, {end}] is no window of 1 to {MAX_WINDOW:,} cycles below the limit of {scenario.cycles:,}"

@@ -143,6 +143,7 @@ class History:
         marks = {self.path: mark_of(self.path)}
         self.text = files.read_text(scenario).removeprefix(toml.BYTE_ORDER_MARK)
         self.scenario = Scenario.of_text(self.text, files.shown(scenario), self.place)
+        self.scenario.refuse_endless()
         self.limit, self.nodes = self.scenario.cycles, len(self.scenario.images)
         # Without the lines of its limit and window, which each window has of its own.
         self.rest = windowed(self.text, 0, 1).split("\n", 2)[2]

@@ -101,6 +101,7 @@ def gathered(path: str, simulator: Simulator, all_programs: programs.Programs, w
     """What is known of the run of the scenario in the file `path`."""
     text = files.read_text(path)
     scenario = Scenario.of_text(text, files.shown(path), os.path.dirname(path))
+    scenario.refuse_endless()
     document = toml.loads(text)
     with tempfile.TemporaryDirectory(prefix="avrora-report-") as folder:
         trace_path = wishes.trace or os.path.join(folder, "trace")
