@@ -67,6 +67,8 @@ class Progress:
     def count(self, outcome: str, by: int = 1) -> None:
         self.outcomes[outcome] += by
         self.done += by
+        if by < 0:  # results were dropped: the rate begins anew
+            self.marks = collections.deque([(time.monotonic(), self.done)])
 
     @property
     def left(self) -> int:

@@ -173,5 +173,10 @@ def test_when_it_ends(monkeypatch):
     progress.text(3, 2)
     now += 1
     assert progress.text(3, 2).endswith("121 s, 122 s to go, until about 00:02")
-    progress.count(runs.PASSED, 600)
+    progress.count(runs.PASSED, -200)  # a worker is believed no more
+    assert "to go" not in progress.text(3, 1)
+    now += 10
+    progress.count(runs.PASSED, 20)
+    assert progress.text(3, 1).endswith("131 s, 390 s to go, until about 00:06")
+    progress.count(runs.PASSED, 780)
     assert "to go" not in progress.text(0, 2)
