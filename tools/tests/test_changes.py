@@ -214,7 +214,7 @@ def test_a_condition_needs_a_run(folder):
     case.write_text("run watched.toml\nelf watched.elf\nalways 0 ticks < 3\n")
     (folder / "w.trace").write_text(run_tool("window", f"{folder}/watched.toml", "0", "3000")[1])
     status, output, errors = run_tool("expect", "--trace", f"{folder}/w.trace", str(case))
-    assert status == 2 and "judged by `expect` alone, over the run that the case names" in output + errors
+    assert status == 2 and "judged over a run, by `expect`, `campaign` and `report`, and not over a trace" in output + errors
 
 
 # ---- waves, and a state at a cycle
