@@ -217,11 +217,7 @@ def test_a_condition_needs_a_run(folder):
     case.write_text("run watched.toml\nelf watched.elf\nalways 0 ticks < 3\n")
     (folder / "w.trace").write_text(run_tool("window", f"{folder}/watched.toml", "0", "3000")[1])
     status, output, errors = run_tool("expect", "--trace", f"{folder}/w.trace", str(case))
-<<<<<<< HEAD
-    assert status == 2 and "and not over a trace" in output + errors
-=======
     assert status == 2 and "judged over a run, by `expect`, `campaign` and `report`, and not over a trace" in output + errors
->>>>>>> 76760f4173996c932d4dd1e64cda0b8d870a6e7f
 
 
 # ---- waves, and a state at a cycle
