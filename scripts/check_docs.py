@@ -60,6 +60,7 @@ NO_SOURCES = ("crates/command_facts/stdout",)
 # Names of other programs and of the kit that documents use and no source does, with whose they are.
 OTHERS = {
     "shell and system": "bash cmp cut echo false grep head less make printf sed sort tail tr true ulimit valgrind callgrind perf taskset timeout",
+    "gdb": "quit",
     "compilers": "avr avr-gcc avr-as avr-nm avr-objcopy avr-objdump avr-addr2line binutils simavr clang nm",
     "TOML": "inf nan",
     "avr-libc": "wdt_enable wdt_disable",
