@@ -27,7 +27,8 @@ def place_of(tmp_path, *names):
             for folder in (f"{TOP}/examples", f"{TOP}/examples/races"):
                 if os.path.exists(f"{folder}/{name}.{ending}"):
                     shutil.copy(f"{folder}/{name}.{ending}", tmp_path)
-    shutil.copy(f"{TOP}/examples/radio.h", tmp_path)
+    for folder in (tmp_path, tmp_path.parent):  # a race includes it from the folder above
+        shutil.copy(f"{TOP}/examples/radio.h", folder)
     return tmp_path
 
 
