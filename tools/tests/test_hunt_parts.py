@@ -78,6 +78,24 @@ def test_a_trial_of_a_file_says_nothing_else(record):
         trial_of({**record_of(TRIAL), **record})
 
 
+@pytest.mark.parametrize(
+    "text",
+    [
+        "[]",
+        "{}",
+        "[" * 100_000,
+        '{"version": 1, "seed": NaN}',
+        '{"version": 1, "seed": 1, "rounds": Infinity, "failed": []}',
+        '{"version": 1, "seed": 1, "rounds": 0, "failed": {}}',
+        '{"version": 1, "seed": 1, "rounds": 0, "failed": [[]]}',
+    ],
+)
+def test_a_corpus_that_is_none_is_refused(tmp_path, text):
+    (tmp_path / "hunt.json").write_text(text)
+    with pytest.raises(BadInput, match="no corpus of a hunt|no trial of a hunt"):
+        Corpus(str(tmp_path))
+
+
 def test_a_node_goes_and_those_behind_move_up():
     small = without_node(DOCUMENT, 0)
     assert [node["image"] for node in small["node"]] == ["b.hex", "c.hex"]

@@ -79,6 +79,12 @@ def test_the_same_output_is_told_so(tmp_path):
     assert (status, out) == (0, "the same output\n")
 
 
+def test_a_pipe_that_a_case_names_is_not_waited_for(tmp_path):
+    os.mkfifo(tmp_path / "pipe.toml")
+    (tmp_path / "a.expect").write_text("run pipe.toml\n* 0 sent *\n")
+    assert rerunning.watched([f"{tmp_path}/a.expect"]) == [f"{tmp_path}/a.expect"]
+
+
 def test_images_of_a_scenario_and_files_of_a_case_are_watched(tmp_path):
     for name in ("relay.toml", "relay.hex", "relay.trace"):
         shutil.copy(f"{DATA}/{name}", tmp_path)

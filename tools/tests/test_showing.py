@@ -172,7 +172,8 @@ def words_of_bash(line):
 
 
 def test_a_line_for_bash_shows_nothing_and_has_the_same_words():
-    words = ["a b", "it's", "\x1b[31m", "a\nb", "\u202eexe", "\udcff", "$(id)", "`id`", "##[x]\x07", "\\x41\x01", "", "-x"]
+    words = ["a b", "it's", "\x1b[31m", "a\nb", "\u202eexe", "\udcff", "$(id)", "`id`", "##[x]\x07"]
+    words += ["\\x41\x01", "", "-x"]
     words += ["".join(EVERY[first : first + 64]) for first in range(1, 0x400, 64)]
     line = showing.shell_line(words)
     assert line.isprintable() and "##[" not in line
