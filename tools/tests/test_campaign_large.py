@@ -101,6 +101,8 @@ class FakePool:
                 self.busy[worker.name] = self.now
                 answers = [{**outcome, "seconds": self.seconds[worker.name]} for _ in jobs]
                 events.append(pools.Done(worker, ticket, answers, None))
+        if not events:
+            self.now += seconds
         return events
 
     def set_aside(self, worker):
