@@ -69,4 +69,6 @@ def main(cycles):
 
 
 if __name__ == "__main__":
+    if sys.argv[1:2] in (["--help"], ["-h"]):
+        sys.exit(print(__doc__))
     main(int(sys.argv[1].replace("_", "")) if len(sys.argv) > 1 else 100_000_000)
