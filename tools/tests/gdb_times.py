@@ -1,5 +1,9 @@
-"""How long the real avr-gdb waits for the tool: PYTHONPATH=tools python3 tools/tests/gdb_times.py [SEED]. Needs AVRORA_PROGRAM, gcc-avr and
-gdb-avr. Prints a line for each measure, in milliseconds: the median, the 95th percentile and the longest.
+#!/usr/bin/env python3
+"""How long the real avr-gdb waits for the tool.
+
+    tools/tests/gdb_times.py [SEED]    it needs AVRORA_PROGRAM, gcc-avr and gdb-avr
+
+Prints a line for each measure, in milliseconds: the median, the 95th percentile and the longest.
 
 Two networks of eight nodes over two simulated seconds, from examples/packet.c: as it stands, where nodes mostly sleep, and
 with a loop instead of sleep, where all eight execute all the time."""
@@ -13,8 +17,10 @@ import sys
 import tempfile
 import time
 
-from gdb_driver import Gdb
-from support import TOP
+sys.path[:0] = [str(pathlib.Path(__file__).resolve().parents[n]) for n in (1, 0)]
+
+from gdb_driver import Gdb  # noqa: E402
+from support import TOP  # noqa: E402
 
 SECOND = 7_372_800  # cycles
 NODES = 8
@@ -110,4 +116,6 @@ def main() -> None:
 
 
 if __name__ == "__main__":
+    if sys.argv[1:2] in (["--help"], ["-h"]):
+        sys.exit(print(__doc__))
     main()

@@ -1,8 +1,10 @@
+#!/usr/bin/env python3
 """Drawn walks of the real avr-gdb through a run, forwards and backwards, against a model of the run that is made of the
 rows of its whole trace and of states that `look` writes.
 
-PYTHONPATH=tools:tools/tests python3 tools/tests/gdb_walks.py FOLDER [COUNT [SEED]] takes COUNT walks (1,000) through
-FOLDER/packet.toml; test_gdb_walks.py takes a few. A failure names its seed, by which the same walk comes again."""
+    tools/tests/gdb_walks.py FOLDER [COUNT [SEED]]    COUNT walks (1,000) through FOLDER/packet.toml
+
+test_gdb_walks.py takes a few. A failure names its seed, by which the same walk comes again."""
 import bisect
 import os
 import random
@@ -10,12 +12,15 @@ import re
 import subprocess
 import sys
 from collections import namedtuple
+from pathlib import Path
 
-from avrora_tools.debugging.history import History, history
-from avrora_tools.debugging.target import registers
-from avrora_tools.scenarios import MAX_WINDOW
+sys.path[:0] = [str(Path(__file__).resolve().parents[n]) for n in (1, 0)]
 
-from gdb_driver import Gdb
+from avrora_tools.debugging.history import History, history  # noqa: E402
+from avrora_tools.debugging.target import registers  # noqa: E402
+from avrora_tools.scenarios import MAX_WINDOW  # noqa: E402
+
+from gdb_driver import Gdb  # noqa: E402
 
 Row = namedtuple("Row", "cycle kind word text")
 
@@ -250,4 +255,6 @@ def main() -> None:
 
 
 if __name__ == "__main__":
+    if sys.argv[1:2] in (["--help"], ["-h"]):
+        sys.exit(print(__doc__))
     main()
