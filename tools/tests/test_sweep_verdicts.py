@@ -113,15 +113,15 @@ def test_what_a_node_wrote_is_bytes_to_a_check(folder):
 
 
 def test_a_never_without_room_is_the_verdict_of_its_run(folder):
-    """The answer comes behind cycle 280,400 in some runs, and in these alone the last row has no room."""
-    (folder / "gap.expect").write_text("never * * serial 21\n* 0 serial 6B\nnever 280_000..280_400 * stop *\n")
+    """The answer comes before cycle 280,400 in some runs, and in these alone the `never` above it has no room."""
+    (folder / "gap.expect").write_text("never * * serial 21\nnever 280_400..290_000 * stop *\n* 0 serial 6B\n")
     status, out, err = sweep(folder, "torn_guard", "--expect", str(folder / "gap.expect"))
     assert (status, err) == (1, "")
     failing = int(re.search(r"^(\d+) of \d+ classes fail", out, re.M)[1])
     assert 4 < failing < 126
     assert (
         "line 1: this row was never to come" in out
-        and "gap.expect, line 3: between the rows that were found about it" in out
+        and "gap.expect, line 2: between the rows that were found about it" in out
     )
 
 
