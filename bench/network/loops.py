@@ -128,7 +128,7 @@ def by_byte(rng: random.Random, register: int) -> Words:
     start = [ldi(register, rng.choice((rng.randrange(1, 9), rng.randrange(256), rng.randrange(256))))]
     kind = rng.choice(("dec", "dec", "dec", "inc", "subi"))
     step = word("subi", d=register - 16, K=1) if kind == "subi" else word(kind, d=register)
-    ends = rng.choice(((Z, False), (Z, False), (Z, False), (N, False), (V, False), (S, rng.random() < 0.5), (N, True)))
+    ends = rng.choice(((Z, False), (Z, False), (Z, False), (N, False), (V, False), (S, rng.random() < 0.5), (N, True), (H, False), (C, False)))
     fill = nops(rng, 8)
     if rng.random() < 0.2:
         return [*start, *back([step, *fill, word("brbs", s=Z, k=1)])]
