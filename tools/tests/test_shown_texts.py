@@ -78,6 +78,17 @@ def test_keys_and_values_of_a_scenario(text):
             assert status and is_clean(out) and is_clean(err) and f"{out}{err}".count("\n") in (1, 2, 3)
 
 
+def test_what_the_simulator_says_of_an_image(tmp_path):
+    """`window` hands on what the simulator says, and in that are names of files."""
+    simulator = tmp_path / "avrora"
+    simulator.write_text("#!/bin/sh\nprintf 'avrora: \\033[31m.hex: image refused: NotARecord, line 1\\n' >&2\nexit 5\n")
+    simulator.chmod(0o755)
+    (tmp_path / "a.hex").write_text(":00000001FF\n")
+    (tmp_path / "a.toml").write_text("cycles = 9\nnode = [{ image = 'a.hex' }]\n")
+    status, out, err = run_tool("window", "--avrora", str(simulator), str(tmp_path / "a.toml"), "0", "9")
+    assert status == 2 and not out and err == "avrora: \\x1B[31m.hex: image refused: NotARecord, line 1\n"
+
+
 class Page(html.parser.HTMLParser):
     def __init__(self, text):
         super().__init__()

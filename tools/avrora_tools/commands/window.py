@@ -4,13 +4,15 @@ import os
 import subprocess
 import sys
 import tempfile
-from typing import BinaryIO, cast
+from typing import IO, BinaryIO, cast
 
-from avrora_tools import cli, files, toml, traces
+from avrora_tools import cli, files, showing, toml, traces
 from avrora_tools.errors import BadInput, CannotWork, Status
 from avrora_tools.expectations import REFUSALS
 from avrora_tools.scenarios import MAX_WINDOW, Scenario
 from avrora_tools.states import State
+
+MOST_SAID = 65_536  # bytes of what the simulator said that are shown
 
 SUMMARY = "runs a scenario again, with all instructions of a window"
 
@@ -75,25 +77,37 @@ def filtered(arguments: argparse.Namespace, scenario: str) -> int:
     if arguments.state:
         words[1:] = ["resume", scenario, os.path.abspath(arguments.state)]
     folder = os.path.dirname(os.path.abspath(arguments.scenario))
-    try:
-        process = subprocess.Popen(words, cwd=folder, stdin=subprocess.DEVNULL, stdout=subprocess.PIPE)
-    except OSError as fault:
-        raise CannotWork(f"cannot run {files.shown(words[0])}: {fault.strerror}") from None
-    with process:
+    with tempfile.TemporaryFile() as said:
         try:
-            write_rows(cast(BinaryIO, process.stdout), arguments.first)
-        except BadInput as fault:
-            if not process.wait():
-                raise CannotWork(str(fault)) from None
-        except BaseException:
-            process.kill()
-            raise
-        status = process.wait()
+            process = subprocess.Popen(
+                words, cwd=folder, stdin=subprocess.DEVNULL, stdout=subprocess.PIPE, stderr=said
+            )
+        except OSError as fault:
+            raise CannotWork(f"cannot run {files.shown(words[0])}: {fault.strerror}") from None
+        with process:
+            try:
+                write_rows(cast(BinaryIO, process.stdout), arguments.first)
+            except BadInput as fault:
+                if not process.wait():
+                    raise CannotWork(str(fault)) from None
+            except BaseException:
+                process.kill()
+                raise
+            status = process.wait()
+        show_said(said)
     if status in REFUSALS:
         return Status.BAD_INPUT  # of which the simulator has told
     if status:
         raise CannotWork(f"the simulator ended with status {status}")
     return Status.GOOD
+
+
+def show_said(said: IO[bytes]) -> None:
+    """Shows what the simulator said, in which names of files are."""
+    said.seek(0)
+    text = said.read(MOST_SAID).decode(errors="surrogateescape")
+    if text:
+        print(showing.printable_lines(text.rstrip("\n")), file=sys.stderr)
 
 
 def write_rows(output: BinaryIO, first: int) -> None:
