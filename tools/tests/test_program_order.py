@@ -28,6 +28,7 @@ def place(tmp_path_factory):
         "no-image": "no image\n",
         "no-state": "no state\n",
         "moves": "0 300000 100 41\n",
+        "places": "0 byte 005F\n0 at 0000\n",
     }
     for name, content in texts.items():
         (path / name).write_text(content)
@@ -64,6 +65,11 @@ def said(place, *words):
         "head packet.toml 1 state",
         "save packet.toml 1 state",
         "sweep packet.toml state moves",
+        "look packet.toml 1000",
+        "look packet.toml 300000 state",
+        "watch packet.toml 0 5000 places",
+        "watch packet.toml 262144 270000 places state",
+        "watch packet.toml 262144 270000 places state moves",
         "node hello.hex 1000",
         "disasm hello.hex",
         "asm digits.s",
@@ -71,7 +77,7 @@ def said(place, *words):
     ],
 )
 def test_the_stack(words, place):
-    done = called(place, *words.split(), stack=640)
+    done = called(place, *words.split(), stack=1024)
     assert done.returncode == 0 and done.stdout
 
 
