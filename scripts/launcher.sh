@@ -216,6 +216,7 @@ explain_refusal() {
     find_told "$kind" "$cause" "${@:2}"
     [[ -z $or ]] || where+=' if it is in the file'
     [[ $cause != NotToml || ${1%: scenario refused: *} != *.@(hex|ihex) ]] || where='; an image runs by: node FILE CYCLES'
+    [[ ${1%: source refused: *} != *.c ]] || where='; a C file is for avr-gcc'
     if [[ -n $told ]]; then
         echo "($cause: $told; docs/FORMATS.md)" >&2
         return
@@ -281,7 +282,7 @@ launch() {
             exit
             ;;
         --version)
-            version || exit "$NOT_THERE"
+            version
             exit
             ;;
         '') bad_words 'a command is missing' ;;

@@ -325,7 +325,8 @@ class FirstRun(OfARepository):
             (4, bad_range, "run a.toml", "(OutOfRange: a number,", f"{why})"),
             (4, f"avrora: a.hex: {no_toml}", "run a.hex", "(NotToml: ", "; an image runs by: node FILE CYCLES)"),
             (4, f"avrora: a.toml: {no_toml}", "run a.toml", "(NotToml: ", f"{why})"),
-            (7, "avrora: a.c: source refused: UnknownMnemonic, line 1", "asm a.c", '(UnknownMnemonic: the mnemonic is none of "Instruction texts" and', "docs/FORMATS.md)"),
+            (7, "avrora: a.c: source refused: UnknownMnemonic, line 1", "asm a.c", "(UnknownMnemonic: asm has no such mnemonic: ", "docs/FORMATS.md; a C file is for avr-gcc)"),
+            (7, "avrora: a.s: source refused: UnknownMnemonic, line 1", "asm a.s", "(UnknownMnemonic: asm has no such mnemonic: ", "docs/FORMATS.md)"),
             (3, "avrora: cannot read 0100", "watch a.toml 0 9 0100", "(PLACES is the name of a file; it is not there, ", "docs/FAULTS.md)"),
             (3, "avrora: cannot read s", "sweep a.toml s m", "(STATE is the name of a file; it is not there, ", "docs/FAULTS.md)"),
             (3, "avrora: cannot read a", "watch a 0 9 b", "(it is not there, ", "docs/FAULTS.md)"),
@@ -349,6 +350,7 @@ class FirstRun(OfARepository):
             self.assertEqual(status, 10)
             self.assertIn(f"avrora: {other} is of no release that is proved: ", err)
             self.assertIn("libexec/avrora/avrora_program of an unpacked release of this commit, or none (`unset AVRORA_PROGRAM`)", err)
+            self.assertEqual(err.count("is of no release"), 1)
 
     def test_each_cause_is_explained(self):
         """Each cause that the program can write, in its line, by the row of FORMATS.md; no table there has another one."""
