@@ -12,8 +12,8 @@
 # The exit statuses that a launcher gives or explains; the program's own are below NOT_THERE.
 readonly NOT_WRITTEN=1 BAD_WORDS=2 CANNOT_READ=3 NO_MEMORY=6 NO_WORDS=9 NOT_THERE=10
 
-# The largest numbers that commands take: of epochs, of cycles of one node, of a sample network, and a cycle.
-readonly MOST_EPOCHS=9999999 MOST_CYCLES=10000000 MOST_NUMBER=65535 LAST_CYCLE=1099511627776
+# The cycles of an epoch, and the largest numbers that commands take: of epochs, of cycles of one node, of a sample network, and a cycle.
+readonly EPOCH=262144 MOST_EPOCHS=9999999 MOST_CYCLES=10000000 MOST_NUMBER=65535 LAST_CYCLE=1099511627776
 
 # What the program takes for granted of a processor, by the names of /proc/cpuinfo: x86-64-v2 (pni is SSE3).
 readonly NEEDED_OF_PROCESSOR='cx16 lahf_lm pni popcnt sse4_1 sse4_2 ssse3'
@@ -28,7 +28,7 @@ Usage: $called [-C DIR] COMMAND
   run FILE            run the network of the scenario FILE, and write its trace
   run --plain FILE    the same, on one thread
   monitor FILE        run it up to the end of its window, and write where each node's cycles of the window went
-  monitor FILE FROM TO  the same of the cycles from FROM on, below TO: as many as its run has
+  monitor FILE FROM TO  the same of the cycles from FROM on, below TO: a span of any length within its run
   sniff FILE          run it, and write the frames that its nodes send by radio
   check FILE          read the scenario FILE and its images, and write how large the network is
   head FILE N         run it for N epochs of 262144 cycles, and write their part of the trace
@@ -80,14 +80,43 @@ run() {
     return "$status"
 }
 
-# Explains a line that the program wrote before it ended with this status: explain STATUS LINE
+# Explains a line that the program wrote before it ended with this status: explain STATUS LINE COMMAND WORD ..
 explain() {
     case $1 in
         "$NOT_WRITTEN") echo '(a full disk, a closed descriptor, or a pipe that nobody reads; what was written is the beginning of what is due; docs/FAULTS.md)' >&2 ;;
-        "$CANNOT_READ") echo '(it is not there, it is a folder, or you may not read it; images are looked for in the folder where avrora runs, see -C; docs/FAULTS.md)' >&2 ;;
+        "$CANNOT_READ") explain_reading "${@:2}" ;;
         "$NO_MEMORY") echo '(the system refused memory; what was written is the beginning of what is due; docs/FAULTS.md)' >&2 ;;
         "$NO_WORDS") echo 'avrora: a word of the command line is no UTF-8, or memory is refused (docs/FAULTS.md)' >&2 ;;
-        *) explain_refusal "$2" ;;
+        *) explain_refusal "${@:2}" ;;
+    esac
+}
+
+# Explains that a file cannot be read; a word that nobody may take for a file's name is named: explain_reading LINE COMMAND WORD ..
+explain_reading() {
+    local name=${1#avrora: cannot read } forms=() least form of=
+    find_forms "${2-}"
+    shift "$(($# > 1 ? 2 : 1))"
+    for form in "${forms[@]:0:$#}"; do
+        [[ $1 != "$name" || $form != @(STATE|MOVES|PLACES) ]] || of="$form is the name of a file; "
+        shift
+    done
+    echo "(${of}it is not there, it is a folder, or you may not read it; images are looked for in the folder where avrora runs, see -C; docs/FAULTS.md)" >&2
+}
+
+# Sets `forms` to the words that a command takes, as the usage names them, and `least` to how many it must have: find_forms COMMAND.
+# An unknown command has none.
+find_forms() {
+    forms=() least=1
+    case $1 in
+        monitor) forms=(FILE FROM TO) ;;
+        head | save) forms=(FILE N STATE) least=2 ;;
+        look) forms=(FILE CYCLE STATE) least=2 ;;
+        node) forms=(FILE CYCLES) least=2 ;;
+        make) forms=(NUMBER) ;;
+        run | sniff | check | disasm | asm) forms=(FILE) ;;
+        resume) forms=(FILE STATE) least=2 ;;
+        sweep) forms=(FILE STATE MOVES) least=3 ;;
+        watch) forms=(FILE FROM TO PLACES STATE MOVES) least=4 ;;
     esac
 }
 
@@ -107,35 +136,41 @@ find_why() {
     esac
 }
 
-# Says which word of a bad command line is wrong, where that is a number or a file: explain_words COMMAND WORD ..
-explain_words() {
-    local forms=() form why from=
-    case ${1-} in
-        monitor) forms=(file from to) ;;
-        head | save) forms=(file epochs file) ;;
-        look) forms=(file cycle file) ;;
-        node) forms=(file cycles) ;;
-        make) forms=(number) ;;
-        sniff | check | disasm | asm) forms=(file) ;;
-        run) [[ ${2-} == --plain ]] || forms=(file) ;;
-        resume | sweep) forms=(file file file) ;;
-        watch) forms=(file from to file file file) ;;
+# Sets `why` to what is wrong with the name of a file, or to nothing: find_why_no_name COMMAND WORD
+find_why_no_name() {
+    why=
+    case $2 in
+        '') why='an empty name' ;;
+        -C) why='-C DIR stands before the command' ;;
+        -*)
+            why="a name begins with no -: ./$2"
+            [[ $1 != run ]] || why="the one option of run is --plain; $why"
+            ;;
     esac
-    shift || return 0
-    (($# <= ${#forms[@]})) || return 0
-    for form in "${forms[@]:0:$#}"; do
+}
+
+# Says which word of a bad command line is wrong, or which is missing: explain_words COMMAND WORD ..
+explain_words() {
+    local command=${1-} forms=() least form why from= given
+    [[ -n $command ]] || return 0
+    find_forms "$command"
+    if ((${#forms[@]} == 0)); then
+        echo "(${command@Q}: no command)" >&2
+        return
+    fi
+    shift
+    [[ $command != run || ${1-} != --plain ]] || shift
+    given=$#
+    [[ $command != monitor || $given != 2 ]] || least=3
+    for form in "${forms[@]:0:$given}"; do
         case $form in
-            file)
-                why=
-                [[ -n $1 ]] || why='an empty name'
-                [[ $1 != -* ]] || why="a name begins with no -: ./$1"
-                ;;
-            epochs) find_why "$1" 1 "$MOST_EPOCHS" ;;
-            cycles) find_why "$1" 1 "$MOST_CYCLES" ;;
-            number) find_why "$1" 0 "$MOST_NUMBER" ;;
-            *) find_why "$1" 0 "$LAST_CYCLE" ;;
+            N) find_why "$1" 1 "$MOST_EPOCHS" ;;
+            CYCLES) find_why "$1" 1 "$MOST_CYCLES" ;;
+            NUMBER) find_why "$1" 0 "$MOST_NUMBER" ;;
+            FROM | TO | CYCLE) find_why "$1" 0 "$LAST_CYCLE" ;;
+            *) find_why_no_name "$command" "$1" ;;
         esac
-        if [[ -z $why && $form == to ]] && ((10#$1 < 10#$from)); then
+        if [[ -z $why && $form == TO ]] && ((10#$1 < 10#$from)); then
             why="TO is below FROM, which is $from"
         fi
         if [[ -n $why ]]; then
@@ -145,14 +180,32 @@ explain_words() {
         from=$1
         shift
     done
+    if ((given < least)); then
+        echo "($command: ${forms[given]} is missing)" >&2
+    elif (($#)); then
+        echo "(${1@Q}: a word too many for $command)" >&2
+    fi
 }
 
-# Explains the cause in a line by its row of FORMATS.md, and names the tool that says where a scenario is at fault. A fault of a
-# whole file has a table of its own, and no line number: explain_refusal LINE
+# Sets `told` to what a cause says of this command line alone, or to nothing, and `or` to another thing that it may be:
+# find_told KIND CAUSE COMMAND WORD ..
+find_told() {
+    told= or=
+    case "$1 $2 ${3-} $#" in
+        'scenario OutOfRange monitor 6' | 'scenario OutOfRange watch '*) or="TO, which is ${6-}, is above the scenario's cycles; or " ;;
+        'state PastEnd head 5' | 'state PastEnd save 5') told="N epochs of $EPOCH cycles, here $5, end in cycle $((10#$5 * EPOCH)), which is not below the scenario's cycles" ;;
+        'state PastEnd look 5') told="CYCLE, which is $5, is above the scenario's cycles" ;;
+    esac
+}
+
+# Explains the cause in a line by its row of FORMATS.md, or by the command line, and names what says where a scenario is at fault, or
+# what runs an image. A fault of a whole file has a table of its own, and no line number: explain_refusal LINE COMMAND WORD ..
 explain_refusal() {
-    local part where= whole=
+    local kind cause part where= whole= told or
     [[ $1 =~ :\ (scenario|image|source|state|moves|places)\ refused:\ ([A-Za-z]+)(,\ line\ [0-9]+)?$ && -r $formats ]] || return 0
-    case ${BASH_REMATCH[1]} in
+    kind=${BASH_REMATCH[1]} cause=${BASH_REMATCH[2]}
+    [[ -n ${BASH_REMATCH[3]} ]] || whole=yes
+    case $kind in
         scenario) part=Scenarios where='; avrora-tools why FILE says where' ;;
         image) part=Images ;;
         source) part=Sources ;;
@@ -160,13 +213,20 @@ explain_refusal() {
         moves) part=Moves ;;
         places) part=Places ;;
     esac
-    [[ -n ${BASH_REMATCH[3]} ]] || whole=yes
-    awk -v part="## $part" -v where="$where" -v cause="${BASH_REMATCH[2]}" -v whole="$whole" -F ' *[|] *' '
+    find_told "$kind" "$cause" "${@:2}"
+    [[ -z $or ]] || where+=' if it is in the file'
+    [[ $cause != NotToml || ${1%: scenario refused: *} != *.@(hex|ihex) ]] || where='; an image runs by: node FILE CYCLES'
+    [[ ${1%: source refused: *} != *.c ]] || where='; a C file is for avr-gcc'
+    if [[ -n $told ]]; then
+        echo "($cause: $told; docs/FORMATS.md)" >&2
+        return
+    fi
+    awk -v part="## $part" -v where="$where" -v cause="$cause" -v whole="$whole" -v or="$or" -F ' *[|] *' '
         /^## / { within = index($0, part) == 1 }
         !/^[|]/ { of_whole = "" }
         /^[|] Fault of the whole file/ { of_whole = "yes" }
         within && index($2, "`" cause "`") && (found == "" || of_whole == whole) { gsub("`", "", $3); found = $3 }
-        END { if (found != "") print "(" cause ": " found "; docs/FORMATS.md" where ")" }
+        END { if (found != "") print "(" cause ": " or found "; docs/FORMATS.md" where ")" }
     ' "$formats" >&2
 }
 
@@ -211,6 +271,7 @@ launch() {
         [[ $folder == /* ]] || folder=./$folder
         if ! cd -- "$folder" 2>/dev/null; then
             echo "avrora: cannot read $2" >&2
+            [[ ! -t 2 ]] || echo '(it is not there, it is no folder, or you may not enter it)' >&2
             exit "$CANNOT_READ"
         fi
         shift 2
@@ -224,7 +285,8 @@ launch() {
             version
             exit
             ;;
-        '' | -C) bad_words ;;
+        '') bad_words 'a command is missing' ;;
+        -C) bad_words '-C: DIR is missing' ;;
     esac
     own_words "$@"
     require_processor
@@ -237,21 +299,24 @@ launch() {
         # the usage tells of bad words, and a program that a signal ended wrote no cause
         if ((status != 0 && status != BAD_WORDS && status < NOT_THERE)); then
             line=$(tail -n 1 "$said" | tr -d '\0')
-            explain "$status" "$line"
+            explain "$status" "$line" "$@"
         fi
     else
         run "$program" "$@"
         status=$?
     fi
     if [[ $status == "$BAD_WORDS" ]]; then
-        explain_words "$@"
+        # below the usage, where a terminal still shows it
         usage >&2
+        explain_words "$@"
     fi
     exit "$status"
 }
 
+# Ends for words that only the launcher takes: bad_words WHY
 bad_words() {
     echo 'avrora: bad command line' >&2
     usage >&2
+    echo "($1)" >&2
     exit "$BAD_WORDS"
 }

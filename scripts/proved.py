@@ -56,6 +56,10 @@ FORMS = {
 }
 
 
+# What to do about a program of no release.
+REMEDY = "Name libexec/avrora/avrora_program of an unpacked release of this commit, or none (`unset AVRORA_PROGRAM`), and it is proved here"
+
+
 class NotFit(Exception):
     """Why a program cannot stand in for one that is proved here."""
 
@@ -107,7 +111,7 @@ def with_program(program: str) -> str:
         path = os.path.normpath(os.path.join(folder, place))
         if os.path.isfile(path):
             return path
-    raise NotFit(f"{program} is of no release that is proved: no PROVED lies beside it, nor at the top of its release")
+    raise NotFit(f"{program} is of no release that is proved: no PROVED lies beside it, nor at the top of its release. {REMEDY}")
 
 
 def git(top: str, *words: str) -> str:

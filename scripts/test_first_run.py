@@ -110,10 +110,11 @@ class OfARepository(unittest.TestCase):
 
 class FirstRun(OfARepository):
     def test_no_words_prove_nothing(self):
-        for words in ([], ["-C"]):
+        for words, told in (([], "a command is missing"), (["-C"], "-C: DIR is missing"), (["-C", "docs"], "a command is missing"), (["--adopt"], "--adopt takes one FILE")):
             status, out, err = self.ended(*words)
             self.assertEqual((status, out), (2, ""))
             self.assertTrue(err.startswith("avrora: bad command line\nUsage: "))
+            self.assertEqual(err.splitlines()[-1], f"({told})")
         self.assertFalse((self.top / "crates/avrora_program/out").exists())
 
     def test_a_line_for_each_crate(self):
@@ -184,8 +185,8 @@ class FirstRun(OfARepository):
         self.assertTrue(err.startswith("avrora: bad command line\nUsage: "))
         self.assertEqual(err.splitlines().count("avrora: bad command line"), 1)
 
-    def test_what_is_wrong_with_a_number_is_told(self):
-        """A word of a bad command line that is no number as FORMATS.md has it, or no name of a file; of all others nothing."""
+    def test_what_is_wrong_with_a_word_is_told(self):
+        """A word of a bad command line that is no command, no number as FORMATS.md has it, or no name of a file; or one too many or too few."""
         most = "a number from 0 to 1099511627776, of at most 13 digits"
         for words, told in (
             ("monitor a 0 7_372_800", "'7_372_800': a number is digits alone: 7372800"),
@@ -211,16 +212,31 @@ class FirstRun(OfARepository):
             ("watch a 9 8 b c d", "'8': TO is below FROM, which is 9"),
             ("watch a 8 9 b -c", "'-c': a name begins with no -: ./-c"),
             ("watch a 8 9 b c d", ""),
-            ("watch a 8 9 -b c d e", ""),
+            ("watch a 8 9 -b c d", "'-b': a name begins with no -: ./-b"),
+            ("watch a 8 9 b c d e", "'e': a word too many for watch"),
             ("monitor a 08 9", ""),
             ("monitor a 0 1099511627776", ""),
             ("node a 09999999", ""),
             ("node a 10000000", ""),
             ("make 08", ""),
             ("run --plain a", ""),
-            ("monitor a 1 2 3", ""),
-            ("resume a", ""),
-            ("bad", ""),
+            ("resume a b", ""),
+            ("monitor a", ""),
+            ("rum a", "'rum': no command"),
+            ("--plian", "'--plian': no command"),
+            ("run", "run: FILE is missing"),
+            ("run --plain", "run: FILE is missing"),
+            ("run --plian a", "'--plian': the one option of run is --plain; a name begins with no -: ./--plian"),
+            ("run --plain a b", "'b': a word too many for run"),
+            ("run -C", "'-C': -C DIR stands before the command"),
+            ("check -C a", "'-C': -C DIR stands before the command"),
+            ("resume a", "resume: STATE is missing"),
+            ("sweep a b", "sweep: MOVES is missing"),
+            ("watch a 8 9", "watch: PLACES is missing"),
+            ("monitor a 1", "monitor: TO is missing"),
+            ("monitor a 1 2 3", "'3': a word too many for monitor"),
+            ("save a 1 b c", "'c': a word too many for save"),
+            ("make", "make: NUMBER is missing"),
             ("", ""),
         ):
             script = 'called= own_help= notice= formats=; . "$1"; shift; explain_words "$@"'
@@ -228,14 +244,16 @@ class FirstRun(OfARepository):
             said = subprocess.run(run, capture_output=True, text=True, check=True).stderr
             self.assertEqual(said, f"({told})\n" if told else "", words)
 
-    def test_what_is_wrong_stands_above_the_usage(self):
+    def test_what_is_wrong_stands_below_the_usage(self):
         fake = self.top.parent / "refusing"
         fake.write_text("#!/bin/sh\necho 'avrora: bad command line' >&2\nexit 2\n")
         fake.chmod(0o755)
         script = 'called= own_help= notice= formats=; . "$1"; own_words() { :; }; find_program() { program=$FAKE; }; shift; launch "$@"'
         run = ["bash", "-c", script, "bash", TOP / "scripts/launcher.sh", "node", "a", "1_000"]
         said = subprocess.run(run, env={**self.environment, "FAKE": str(fake)}, stdin=subprocess.DEVNULL, capture_output=True, text=True, check=False)
-        self.assertEqual(said.stderr.splitlines()[:2], ["avrora: bad command line", "('1_000': a number is digits alone: 1000)"])
+        lines = said.stderr.splitlines()
+        self.assertEqual((lines[0], lines[-1]), ("avrora: bad command line", "('1_000': a number is digits alone: 1000)"))
+        self.assertTrue(lines[1].startswith("Usage: "))
         self.assertEqual(said.returncode, 2)
 
     def test_the_version_is_of_no_other_repository(self):
@@ -288,6 +306,51 @@ class FirstRun(OfARepository):
         self.assertEqual(self.on_a_terminal("say", "9", ""), (9, ["avrora: a word of the command line is no UTF-8, or memory is refused (docs/FAULTS.md)"]))
         for status in (0, 137):
             self.assertEqual(self.on_a_terminal("say", str(status), "a line"), (status, ["a line"]))
+
+    def test_what_a_cause_says_of_the_command_line(self):
+        """Where the command line decides, its words are told and not those of a file; all other causes have their row."""
+        past = "avrora: a.toml: state refused: PastEnd"
+        bad_range = "avrora: a.toml: scenario refused: OutOfRange"
+        no_toml = "scenario refused: NotToml"
+        why = "docs/FORMATS.md; avrora-tools why FILE says where"
+        for status, line, words, begins, ends in (
+            (8, past, "save a.toml 2", "(PastEnd: N epochs of 262144 cycles, here 2, end in cycle 524288, which is not below the scenario's cycles;", "docs/FORMATS.md)"),
+            (8, past, "head a.toml 08", "(PastEnd: N epochs of 262144 cycles, here 08, end in cycle 2097152, which", "docs/FORMATS.md)"),
+            (8, past, "look a.toml 9", "(PastEnd: CYCLE, which is 9, is above the scenario's cycles;", "docs/FORMATS.md)"),
+            (8, past, "save a.toml 1 b", "(PastEnd: the cycle of line 2 ", "docs/FORMATS.md)"),
+            (8, past, "resume a.toml b", "(PastEnd: the cycle of line 2 ", "docs/FORMATS.md)"),
+            (4, bad_range, "monitor a.toml 0 9", "(OutOfRange: TO, which is 9, is above the scenario's cycles; or a number,", f"{why} if it is in the file)"),
+            (4, bad_range, "watch a.toml 0 9 p s", "(OutOfRange: TO, which is 9, is above the scenario's cycles; or a number,", f"{why} if it is in the file)"),
+            (4, bad_range, "monitor a.toml", "(OutOfRange: a number,", f"{why})"),
+            (4, bad_range, "run a.toml", "(OutOfRange: a number,", f"{why})"),
+            (4, f"avrora: a.hex: {no_toml}", "run a.hex", "(NotToml: ", "; an image runs by: node FILE CYCLES)"),
+            (4, f"avrora: a.toml: {no_toml}", "run a.toml", "(NotToml: ", f"{why})"),
+            (7, "avrora: a.c: source refused: UnknownMnemonic, line 1", "asm a.c", "(UnknownMnemonic: asm has no such mnemonic: ", "docs/FORMATS.md; a C file is for avr-gcc)"),
+            (7, "avrora: a.s: source refused: UnknownMnemonic, line 1", "asm a.s", "(UnknownMnemonic: asm has no such mnemonic: ", "docs/FORMATS.md)"),
+            (3, "avrora: cannot read 0100", "watch a.toml 0 9 0100", "(PLACES is the name of a file; it is not there, ", "docs/FAULTS.md)"),
+            (3, "avrora: cannot read s", "sweep a.toml s m", "(STATE is the name of a file; it is not there, ", "docs/FAULTS.md)"),
+            (3, "avrora: cannot read a", "watch a 0 9 b", "(it is not there, ", "docs/FAULTS.md)"),
+            (3, "avrora: cannot read a", "run --plain a", "(it is not there, ", "docs/FAULTS.md)"),
+        ):
+            script = 'called= own_help= notice= formats=$1; . "$2"; shift 2; explain "$@"'
+            run = ["bash", "-uc", script, "bash", TOP / "docs/FORMATS.md", TOP / "scripts/launcher.sh", str(status), line, *words.split()]
+            said = subprocess.run(run, capture_output=True, text=True, check=True).stderr
+            self.assertEqual((said.startswith(begins), said.endswith(f"{ends}\n"), said.count("\n")), (True, True, 1), (words, said))
+
+    def test_no_folder_on_a_terminal(self):
+        self.assertEqual(self.on_a_terminal("-C", "avrora", "run"), (3, ["avrora: cannot read avrora", "(it is not there, it is no folder, or you may not enter it)"]))
+
+    def test_a_program_of_no_release(self):
+        """No command uses it; each says what to do, and ends with the same status."""
+        other = self.top.parent / "other"
+        other.write_text("#!/bin/sh\nexit 0\n")
+        other.chmod(0o755)
+        for words in (["run", "x"], ["--version"]):
+            status, _, err = self.ended(*words, AVRORA_PROGRAM=str(other))
+            self.assertEqual(status, 10)
+            self.assertIn(f"avrora: {other} is of no release that is proved: ", err)
+            self.assertIn("libexec/avrora/avrora_program of an unpacked release of this commit, or none (`unset AVRORA_PROGRAM`)", err)
+            self.assertEqual(err.count("is of no release"), 1)
 
     def test_each_cause_is_explained(self):
         """Each cause that the program can write, in its line, by the row of FORMATS.md; no table there has another one."""

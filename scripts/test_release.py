@@ -390,8 +390,8 @@ class Launcher(OfARepository):
             self.assertNotIn(word, out.replace("proved with", ""))
         for words in ("-h", "--help"):
             self.assertEqual(self.avrora(words), (0, out, ""))
-        self.assertEqual(self.avrora(), (2, "", f"avrora: bad command line\n{out}"))
-        self.assertEqual(self.avrora("bad"), (2, "", f"avrora: bad command line\n{out}"))
+        self.assertEqual(self.avrora(), (2, "", f"avrora: bad command line\n{out}(a command is missing)\n"))
+        self.assertEqual(self.avrora("bad"), (2, "", f"avrora: bad command line\n{out}('bad': no command)\n"))
         # both launchers have one text
         here = self.repository.avrora("help")[1].replace("./avrora", "avrora").splitlines()
         self.assertEqual([it for it in out.splitlines() if it not in here], [])
@@ -645,7 +645,7 @@ class Manuals(OfARepository):
         self.assertNotIn("proved", about)
         self.assertIn(".TP\n\\fBrun \\-\\-plain FILE\\fR\nthe same, on one thread\n", main)
         self.assertRegex(main, r"\.TP\n\\fBwatch .*\\fR\nrun it, and write each change of .* if they are there\n")
-        self.assertIn(".TP\n10\nthere is no program that can run here\n", main)
+        self.assertIn(".TP\n10\nno proved program here, or the processor lacks a feature\n", main)
         self.assertIn(".TP\n\\fBSelfLink\\fR\na link from a node to itself\n", scenario)
         self.assertIn(".TP\nheard: \\fBCYCLE NODE heard STATUS BYTE AGE\\fR\n", trace)
         if not shutil.which("man"):

@@ -316,7 +316,8 @@ def is_pair(value: object) -> bool:
 
 def places(text: str) -> dict[Where, int]:
     """The lines of a scenario's text: of each table (name, number, "") and of each key (name, number, key); the name of
-    the top is "". What TOML allows and nobody writes (dotted keys, tables in several pieces) may be left out."""
+    the top is "". A table is also a key of the top, in the first of its lines. What TOML allows and nobody writes
+    (dotted keys, tables in several pieces) may be left out."""
     lines: dict[Where, int] = {}
     name, number = "", 0
     count: collections.Counter[str] = collections.Counter()
@@ -328,6 +329,7 @@ def places(text: str) -> dict[Where, int]:
             number = count[name]
             count[name] += 1
             lines[name, number, ""] = line
+            lines.setdefault(("", 0, name), line)
         elif words[0] == "[":
             name, number = bare("".join(words[1 : words.index("]")])), 0
             lines["", 0, name] = line

@@ -106,6 +106,15 @@ class Why(unittest.TestCase):
             "OutOfRange, line 1, cycles: 0 is not 1 to 10,000,000\n",
         )
 
+    def test_an_unknown_table_has_its_line(self):
+        """The first of its lines, however the table is written."""
+        good = "cycles = 9\n[[node]]\nimage = 'a'\n"
+        for more in ("[[lonk]]\nfrom = 0\n[[lonk]]\n", "[lonk]\n", "[ 'lonk' ]\n"):
+            with scratch("bad.toml", good + more) as path:
+                self.assertEqual(run_tool("why", path)[:2], (1, "UnknownKey, line 4, lonk: no key of a scenario\n"), more)
+        with scratch("bad.toml", f"lonk = [{{ a = 1 }}]\n{good}") as path:
+            self.assertEqual(run_tool("why", path)[:2], (1, "UnknownKey, line 1, lonk: no key of a scenario\n"))
+
     def test_no_file(self):
         status, _, err = run_tool("why", "/nowhere.toml")
         self.assertEqual((status, err), (2, "avrora-tools why: cannot read /nowhere.toml: No such file or directory\n"))
