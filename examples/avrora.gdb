@@ -15,7 +15,15 @@ document avrora-show
 Show where the node stands now, without what gdb kept from before.
 end
 
+define avrora-here
+    eval "thread apply %d -q echo", $_thread
+end
+document avrora-here
+Tell the tool which thread gdb shows, where `thread apply` or `inferior` changed that.
+end
+
 define goto
+    avrora-here
     monitor goto $arg0
     avrora-show
 end
@@ -24,6 +32,7 @@ goto CYCLE, goto BOOKMARK: stand in a cycle, before what happens in it.
 end
 
 define cycle
+    avrora-here
     monitor cycle
 end
 document cycle

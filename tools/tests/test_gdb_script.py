@@ -60,3 +60,20 @@ def test_a_wrong_event_moves_nothing(folder):  # noqa: F811
     said = gdb(folder, SCRIPT, "upto rain", "upto", "backto sent of 7", "monitor cycle", at=BEGIN)
     assert "one of sent, heard" in said and "upto EVENT" in said and "7 is no node" in said
     assert stands(said)[-1] == (BEGIN, 0)
+
+
+@needs_all
+def test_the_node_that_is_named_is_the_one_that_gdb_shows(folder):  # noqa: F811
+    """Whatever gdb asked of other nodes before."""
+    said = gdb(
+        folder,
+        SCRIPT,
+        *("thread 3", "stepi", "thread 1", "goto 310000"),
+        *("thread 2", "info threads", "monitor cycle", "goto 320000"),
+        *("thread apply 1 3 print $pc", "cycle", "goto 330000"),
+        *("thread 1", "info threads", "monitor bookmark here", "monitor goto 340000"),
+        at=BEGIN,
+    )
+    places = re.findall(r"^(?:here: )?cycle ([\d,]+), node (\d)$", said, re.M)
+    wanted = ["310 0", "310 1", "320 1", "320 1", "330 1", "330 0", "340 0"]
+    assert [f"{cycle[:3]} {node}" for cycle, node in places] == wanted, said

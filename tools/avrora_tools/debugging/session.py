@@ -72,7 +72,6 @@ class Session:
         self.flashes = [history.flash(node) for node in self.nodes()]
         self.motion = Motion(history, Place(cycle, node), self.inferiors.of_node, channel.has_interrupt, self.tell)
         self.general = self.shown = node  # the node that gdb asks about; the one that its user looks at
-        self.shown_before = node  # the choice before
         self.going = list(self.nodes())  # those that gdb lets go
         self.detached: set[int] = set()  # programs that gdb is done with
         self.words = Words(self)
@@ -167,7 +166,7 @@ class Session:
         self.channel.send(b"O" + (text + "\n").encode().hex().encode())
 
     def told(self, stop: Stop) -> bytes:
-        node = self.general = self.shown = self.shown_before = self.motion.at.node
+        node = self.general = self.shown = self.motion.at.node
         self.going = list(self.nodes())
         thread = self.inferiors.thread(node)
         return f"T{stop.signal:02x}thread:{thread};{self.known_registers(node)}{stop.more}".encode()
@@ -262,12 +261,16 @@ class Session:
         if packet[1:2] == b"c":
             self.going = found
         elif one:
-            self.shown_before = self.shown
-            self.general = self.shown = found[0]
+            self.general = found[0]
         return b"OK"
 
     def is_alive(self, packet: bytes) -> bytes:
-        return b"E.no such node" if self.named(packet[1:]) is None else b"OK"
+        """gdb asks it of the thread that its user chooses, and of no thread that `info threads` lists."""
+        node = self.named(packet[1:])
+        if node is None:
+            return b"E.no such node"
+        self.shown = node
+        return b"OK"
 
     def command(self, packet: bytes) -> bytes:
         text = self.words.answer(bytes.fromhex(packet.split(b",", 1)[1].decode("ascii")).decode("utf-8", "replace"))
@@ -276,7 +279,6 @@ class Session:
     # ---- breakpoints
 
     def point(self, packet: bytes) -> Point:
-        self.shown = self.shown_before  # gdb chose a node of the program, and its user did not
         return Point(self.program(), int(packet.split(b",")[1], 16) // 2)
 
     def program(self) -> int:
