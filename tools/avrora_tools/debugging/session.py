@@ -3,7 +3,7 @@ import os
 import re
 from collections.abc import Callable
 
-from avrora_tools import images
+from avrora_tools import images, terminal
 from avrora_tools.debugging import replays, target
 from avrora_tools.debugging.history import History
 from avrora_tools.debugging.inferiors import NUMBER as NUMBER_TEXT
@@ -23,7 +23,8 @@ SUPPORTED = (
     "qXfer:memory-map:read+;qXfer:threads:read+;qXfer:exec-file:read+"
 )
 
-FIXED = b"E.a run is a fact: nothing of it can be changed"
+FIXED_WORDS = "a run is a fact: nothing of it can be changed"
+FIXED = f"E.{FIXED_WORDS}".encode()
 NO_ANSWER = b""  # of what this does not know
 MALFORMED = b"E.malformed packet"
 
@@ -98,13 +99,15 @@ class Session:
             (b"m", self.read_memory),
             (b"G", lambda _: FIXED),
             (b"P", lambda _: FIXED),
-            (b"M", lambda _: FIXED),
-            (b"X", lambda _: FIXED),
+            (b"M", self.refuse_write),
+            (b"X", self.refuse_write),
             (b"H", self.choose),
             (b"T", self.is_alive),
             (b"Z0", self.set_point),
             (b"Z1", self.set_point),
             (b"Z2", self.set_watch),
+            (b"Z3", self.refuse_read_watch),
+            (b"Z4", self.refuse_read_watch),
             (b"z0", self.clear_point),
             (b"z1", self.clear_point),
             (b"z2", self.clear_watch),
@@ -295,11 +298,18 @@ class Session:
     def set_watch(self, packet: bytes) -> bytes:
         if self.motion.watches.insert(range_of(packet), self.general):
             return b"OK"
-        return b"E.only registers, SP, SREG, kept I/O bytes and the SRAM can be watched"
+        return explained("only registers, SP, SREG, kept I/O bytes and the SRAM can be watched, at most 64 bytes: delete it")
 
     def clear_watch(self, packet: bytes) -> bytes:
         self.motion.watches.remove(range_of(packet), self.general)
         return b"OK"
+
+    def refuse_read_watch(self, _: bytes) -> bytes:
+        return explained("only writes can be watched, and no reads: delete this watchpoint, and use `watch`")
+
+    def refuse_write(self, packet: bytes) -> bytes:
+        """M and X. gdb first tries X with no bytes, which changes nothing."""
+        return FIXED if re.match(rb"X[0-9a-fA-F]+,0+:", packet) else explained(FIXED_WORDS)
 
     # ---- runs through time
 
@@ -321,6 +331,12 @@ class Session:
     def continuing(self) -> int:
         """The node that moves where a packet names none."""
         return self.going[0] if len(self.going) == 1 else self.general
+
+
+def explained(why: str) -> bytes:
+    """A refusal whose words gdb keeps to itself: they go to the standard error too, which gdb shows of a pipe."""
+    terminal.say(why)
+    return f"E.{why}".encode()
 
 
 def range_of(packet: bytes) -> Range:
