@@ -15,7 +15,15 @@ document avrora-show
 Show where the node stands now, without what gdb kept from before.
 end
 
+define avrora-here
+    eval "thread apply %d -q echo", $_thread
+end
+document avrora-here
+Tell the tool which thread gdb shows, where `thread apply` or `inferior` changed that.
+end
+
 define goto
+    avrora-here
     monitor goto $arg0
     avrora-show
 end
@@ -24,6 +32,7 @@ goto CYCLE, goto BOOKMARK: stand in a cycle, before what happens in it.
 end
 
 define cycle
+    avrora-here
     monitor cycle
 end
 document cycle
@@ -31,20 +40,48 @@ The cycle, and what each node does.
 end
 
 define upto
-    eval "monitor next %s", "$arg0"
+    if $argc == 0
+        help upto
+    end
+    if $argc == 1
+        monitor next $arg0
+    end
+    if $argc == 2
+        monitor next $arg0 $arg1
+    end
+    if $argc == 3
+        monitor next $arg0 $arg1 $arg2
+    end
+    if $argc == 4
+        monitor next $arg0 $arg1 $arg2 $arg3
+    end
     avrora-show
 end
 document upto
-upto EVENT: to the next event of any node: sent, heard, clash, serial, stop, interrupt.
-With a node or a vector use `monitor next EVENT of NODE`, and then `avrora-show`.
+upto EVENT [of NODE]: to the next event: sent, heard, clash, serial, stop, interrupt.
+Behind `interrupt` a vector may stand: upto interrupt TIMER1_COMPA of 2.
 end
 
 define backto
-    eval "monitor last %s", "$arg0"
+    if $argc == 0
+        help backto
+    end
+    if $argc == 1
+        monitor last $arg0
+    end
+    if $argc == 2
+        monitor last $arg0 $arg1
+    end
+    if $argc == 3
+        monitor last $arg0 $arg1 $arg2
+    end
+    if $argc == 4
+        monitor last $arg0 $arg1 $arg2 $arg3
+    end
     avrora-show
 end
 document backto
-backto EVENT: back to the last event before this, as `upto`.
+backto EVENT [of NODE]: back to the last event before this, as `upto`.
 end
 
 define who

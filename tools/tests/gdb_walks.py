@@ -71,8 +71,11 @@ class Model:
 
     def step(self, cycle: int, node: int, points: set[int]) -> tuple[int, int]:
         """Behind a step of a node, over interrupts unless a breakpoint lies in them."""
-        depth, end = 0, self.limit
-        for row in self.rows[node][bisect.bisect_right(self.cycles[node], cycle) :]:
+        here = bisect.bisect_left(self.cycles[node], cycle)
+        # Where an interrupt begins in this cycle gdb shows what it interrupts.
+        own = self.rows[node][here : bisect.bisect_right(self.cycles[node], cycle)]
+        depth, end = int(any(row.kind == "enter" for row in own)), self.limit
+        for row in self.rows[node][here + len(own) :]:
             if row.kind == "enter":
                 depth += 1
             elif depth and row.text == "reti":

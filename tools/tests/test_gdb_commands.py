@@ -43,11 +43,16 @@ WORKS = [
 ]
 
 REFUSED = [
+    ("set var got = 9", "a run is a fact"),
     ("set var got = 9", "Cannot access memory"),
     ("set var $r24 = 9", "a run is a fact"),
     ("call put(0)", "a run is a fact"),
     ("jump main", "a run is a fact"),
     ("load", "Load failed"),
+    ("rwatch ticks;continue", "only writes can be watched"),
+    ("awatch ticks;continue", "delete this watchpoint"),
+    ("watch *(unsigned char *)0x800052;continue", "can be watched"),
+    ("watch *(char(*)[100])0x800100;continue", "at most 64 bytes"),
     ("rwatch ticks;continue", "Could not insert hardware watchpoint"),
     ("awatch ticks;continue", "Could not insert hardware watchpoint"),
     ("watch *(unsigned char *)0x800052;continue", "Could not insert hardware watchpoint"),

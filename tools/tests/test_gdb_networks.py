@@ -171,6 +171,36 @@ def test_interrupts_are_stepped_over_or_into(two):
     assert two.type("info symbol $pc").text.startswith("__vector_12")
 
 
+@needs_all
+def test_a_step_from_where_an_interrupt_begins_goes_over_it(two):
+    """gdb shows what is interrupted there: the node's next instruction, once the handler has returned."""
+
+    def at_interrupt(word):
+        two.type(f"monitor {word} interrupt of 1")
+        two.type("maintenance flush register-cache")
+        return where(two)[0]
+
+    two.type("thread 2.1")
+    two.type("monitor goto 300_000")
+    begin = at_interrupt("next")
+    counter = two.type("print $pc").text.partition("= ")[2]
+    assert two.type("info symbol $pc").text.startswith("main ")
+    two.type("stepi")
+    behind = where(two)[0]
+    assert two.type("print $pc").text.partition("= ")[2] == counter and behind > begin + 20
+    two.type("stepi")
+    two.type("reverse-stepi")
+    assert where(two)[0] == behind
+    assert at_interrupt("last") == begin
+    two.type("break *$pc thread 2.1")  # gdb steps over it at first, and is not to pass it
+    assert "hit Breakpoint" in two.type("continue").text and where(two)[0] == behind
+    two.type("delete")
+    assert at_interrupt("last") == begin
+    two.type("monitor interrupts show")
+    two.type("stepi")
+    assert two.type("info symbol $pc").text.startswith("__vectors")
+
+
 def main_of(folder, name):
     """The byte addresses of the function main."""
     symbols = subprocess.run(["avr-nm", "-S", f"{name}.elf"], cwd=folder, capture_output=True, text=True, check=True).stdout

@@ -330,10 +330,13 @@ class History:
 
     def row_at(self, node: int, cycle: int) -> Traced | None:
         """The node's row in a cycle, where the rows about it are known and it has one."""
-        number = cycle // STEP_SPAN
-        if (node, number) not in self.replays:
+        return self.row_in(node, cycle) if (node, cycle // STEP_SPAN) in self.replays else None
+
+    def row_in(self, node: int, cycle: int) -> Traced | None:
+        """The node's row in a cycle; None where it has none, as behind the end of the run."""
+        if cycle >= self.limit:
             return None
-        rows, cycles = self.window(number).of(node)
+        rows, cycles = self.window(cycle // STEP_SPAN).of(node)
         place = bisect.bisect_left(cycles, cycle)
         return rows[place] if cycles[place : place + 1] == [cycle] else None
 

@@ -194,8 +194,9 @@ class Motion:
 
     def steps_from(self, cycle: int) -> Iterator[Traced]:
         """The node's rows behind a cycle; interrupts are stepped over, unless they are to be shown or a breakpoint lies
-        in them."""
-        depth = 0
+        in them. Over the one that begins in this cycle too: gdb still shows what it interrupts."""
+        row = self.history.row_in(self.at.node, cycle)
+        depth = 1 if row and row.kind == "enter" else 0
         while (row := self.history.next_row(self.at.node, cycle)) is not None:
             cycle = row.cycle
             if self.shows_interrupts or row.kind == "stop":

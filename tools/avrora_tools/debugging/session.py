@@ -3,7 +3,7 @@ import os
 import re
 from collections.abc import Callable
 
-from avrora_tools import images
+from avrora_tools import images, terminal
 from avrora_tools.debugging import replays, target
 from avrora_tools.debugging.history import History
 from avrora_tools.debugging.inferiors import NUMBER as NUMBER_TEXT
@@ -23,7 +23,8 @@ SUPPORTED = (
     "qXfer:memory-map:read+;qXfer:threads:read+;qXfer:exec-file:read+"
 )
 
-FIXED = b"E.a run is a fact: nothing of it can be changed"
+FIXED_WORDS = "a run is a fact: nothing of it can be changed"
+FIXED = f"E.{FIXED_WORDS}".encode()
 NO_ANSWER = b""  # of what this does not know
 MALFORMED = b"E.malformed packet"
 
@@ -72,7 +73,6 @@ class Session:
         self.flashes = [history.flash(node) for node in self.nodes()]
         self.motion = Motion(history, Place(cycle, node), self.inferiors.of_node, channel.has_interrupt, self.tell)
         self.general = self.shown = node  # the node that gdb asks about; the one that its user looks at
-        self.shown_before = node  # the choice before
         self.going = list(self.nodes())  # those that gdb lets go
         self.detached: set[int] = set()  # programs that gdb is done with
         self.words = Words(self)
@@ -99,13 +99,15 @@ class Session:
             (b"m", self.read_memory),
             (b"G", lambda _: FIXED),
             (b"P", lambda _: FIXED),
-            (b"M", lambda _: FIXED),
-            (b"X", lambda _: FIXED),
+            (b"M", self.refuse_write),
+            (b"X", self.refuse_write),
             (b"H", self.choose),
             (b"T", self.is_alive),
             (b"Z0", self.set_point),
             (b"Z1", self.set_point),
             (b"Z2", self.set_watch),
+            (b"Z3", self.refuse_read_watch),
+            (b"Z4", self.refuse_read_watch),
             (b"z0", self.clear_point),
             (b"z1", self.clear_point),
             (b"z2", self.clear_watch),
@@ -167,7 +169,7 @@ class Session:
         self.channel.send(b"O" + (text + "\n").encode().hex().encode())
 
     def told(self, stop: Stop) -> bytes:
-        node = self.general = self.shown = self.shown_before = self.motion.at.node
+        node = self.general = self.shown = self.motion.at.node
         self.going = list(self.nodes())
         thread = self.inferiors.thread(node)
         return f"T{stop.signal:02x}thread:{thread};{self.known_registers(node)}{stop.more}".encode()
@@ -262,12 +264,16 @@ class Session:
         if packet[1:2] == b"c":
             self.going = found
         elif one:
-            self.shown_before = self.shown
-            self.general = self.shown = found[0]
+            self.general = found[0]
         return b"OK"
 
     def is_alive(self, packet: bytes) -> bytes:
-        return b"E.no such node" if self.named(packet[1:]) is None else b"OK"
+        """gdb asks it of the thread that its user chooses, and of no thread that `info threads` lists."""
+        node = self.named(packet[1:])
+        if node is None:
+            return b"E.no such node"
+        self.shown = node
+        return b"OK"
 
     def command(self, packet: bytes) -> bytes:
         text = self.words.answer(bytes.fromhex(packet.split(b",", 1)[1].decode("ascii")).decode("utf-8", "replace"))
@@ -276,7 +282,6 @@ class Session:
     # ---- breakpoints
 
     def point(self, packet: bytes) -> Point:
-        self.shown = self.shown_before  # gdb chose a node of the program, and its user did not
         return Point(self.program(), int(packet.split(b",")[1], 16) // 2)
 
     def program(self) -> int:
@@ -293,11 +298,18 @@ class Session:
     def set_watch(self, packet: bytes) -> bytes:
         if self.motion.watches.insert(range_of(packet), self.general):
             return b"OK"
-        return b"E.only registers, SP, SREG, kept I/O bytes and the SRAM can be watched"
+        return explained("only registers, SP, SREG, kept I/O bytes and the SRAM can be watched, at most 64 bytes: delete it")
 
     def clear_watch(self, packet: bytes) -> bytes:
         self.motion.watches.remove(range_of(packet), self.general)
         return b"OK"
+
+    def refuse_read_watch(self, _: bytes) -> bytes:
+        return explained("only writes can be watched, and no reads: delete this watchpoint, and use `watch`")
+
+    def refuse_write(self, packet: bytes) -> bytes:
+        """M and X. gdb first tries X with no bytes, which changes nothing."""
+        return FIXED if re.match(rb"X[0-9a-fA-F]+,0+:", packet) else explained(FIXED_WORDS)
 
     # ---- runs through time
 
@@ -319,6 +331,12 @@ class Session:
     def continuing(self) -> int:
         """The node that moves where a packet names none."""
         return self.going[0] if len(self.going) == 1 else self.general
+
+
+def explained(why: str) -> bytes:
+    """A refusal whose words gdb keeps to itself: they go to the standard error too, which gdb shows of a pipe."""
+    terminal.say(why)
+    return f"E.{why}".encode()
 
 
 def range_of(packet: bytes) -> Range:

@@ -86,11 +86,11 @@ class Words:
             raise Refused(f"the run has {self.session.history.limit:,} cycles")
         if cycle < self.session.history.first:
             raise Refused(f"the run begins in cycle {self.session.history.first:,}")
-        self.motion.jump(self.motion.at._replace(cycle=cycle))
+        self.motion.jump(Place(cycle, self.session.shown))
         return self.here()
 
     def here(self) -> str:
-        return f"cycle {self.motion.at.cycle:,}, node {self.motion.at.node}"
+        return f"cycle {self.motion.at.cycle:,}, node {self.session.shown}"
 
     def cycle(self, words: list[str]) -> str:
         nodes = [f"node {node}: {self.session.about(node).partition(', ')[2]}" for node in self.session.nodes()]
