@@ -65,6 +65,14 @@ def test_a_failure_names_cycle_node_value_and_line(folder):
     assert len(re.findall(rf"> {last} 1 ticks: 2 -> 3 by TIMER0_COMP_vect\S* watched\.c:\d+", out)) == 2
 
 
+def test_a_failure_names_no_file_that_is_gone(folder):
+    status, out, err = campaign(folder, "always 1 ticks <= 2\n1..2000 1 serial *\n")
+    assert status == 1, err
+    assert "w.expect, line 3: " in out and "w.expect, line 4: " in out
+    kept = out + "".join(path.read_text(errors="replace") for path in folder.rglob("*") if "results" in str(path) and path.is_file())
+    assert "debug:" not in kept and "tmp/" not in kept, kept
+
+
 def test_each_kind_of_statement(folder):
     last = third_tick(folder)
     met = f"reaches 0 box.state == BUSY\nnever 1 ticks > 3\nbefore {last + 1}: always 0 ticks < 3\n"
