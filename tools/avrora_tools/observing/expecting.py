@@ -18,6 +18,8 @@ from avrora_tools.opening import Where
 from avrora_tools.programs import Programs
 from avrora_tools.scenarios import Scenario
 
+NAMED_BY = "`elf FILE`"  # how a case names a program
+
 
 def parts_of(word: str) -> tuple[str, str]:
     """What an `elf` of a case says: NODES, or nothing, and FILE."""
@@ -85,7 +87,7 @@ class Observer:
         path = os.path.join(case.folder, (case.source or ("", ""))[1])
         scenario = Scenario.load(path)
         words = [beside(case, word) for word in case.elfs]
-        return cls(case, simulator, path, scenario, Network(scenario, Programs(words, scenario)))
+        return cls(case, simulator, path, scenario, Network(scenario, Programs(words, scenario), NAMED_BY))
 
     def read(self, one: Stated) -> Watched:
         count = len(self.scenario.images)

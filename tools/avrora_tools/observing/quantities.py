@@ -95,6 +95,7 @@ class Names:
     """The names that a node's program gives to quantities; registers alone where no program is known."""
 
     program: Program | None
+    named_by: str = "-e"  # how the user names a program
     view: View | None = field(init=False, default=None)
     targets: Targets = field(init=False)
 
@@ -112,7 +113,7 @@ class Names:
 
     @property
     def whose(self) -> str:
-        return self.program.name if self.program else "no program (-e)"
+        return self.program.name if self.program else f"no program ({self.named_by})"
 
     # ---- one by its name
 
@@ -185,7 +186,7 @@ class Names:
         first = re.split(r"[.\[]", name, maxsplit=1)[0]
         shown = files.printable(name)
         if self.program is None:
-            return f"`{shown}` is no register, and no program is known: -e names its ELF file"
+            return f"`{shown}` is no register, and no program is known: {self.named_by} names its ELF file"
         if why := why_without_place(self.program.path, name, first):
             return f"{self.whose}: `{shown}` {why}"
         near = difflib.get_close_matches(name, [*self.variables, *REGISTER_NAMES], 1)
