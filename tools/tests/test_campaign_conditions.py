@@ -82,6 +82,23 @@ def test_expect_says_how_a_case_names_a_program(folder):
         assert said in text, text
 
 
+def test_a_failure_before_main_says_what_may_be_meant(folder):
+    """Initial values are written by the code before `main`: until then each is 0."""
+    (folder / "start.c").write_text("#include <stdint.h>\nvolatile uint8_t level = 7;\nint main(void) { for (;;) ; }\n")
+    compiled(folder / "start.c", folder, "-Os")
+    (folder / "start.toml").write_text(SCENARIO.replace("watched", "start"))
+    case = "run start.toml\nelf start.elf\n"
+    (folder / "w.expect").write_text(case + "always 1 level == 7\n")
+    status, out, _ = run_tool("expect", str(folder / "w.expect"))
+    assert status == 1 and "`level == 7` does not hold at node 1 in cycle 0: level is 0\n" in out
+    meant = re.search("initial values come some hundred cycles after reset; `(within 1_000..: always 1 level == 7)` looks", out)
+    (folder / "w.expect").write_text(f"{case}{meant[1]}\n")
+    assert run_tool("expect", str(folder / "w.expect"))[0] == 0
+    (folder / "w.expect").write_text(f"{case}within 1_000..: always 1 level == 8\n")
+    status, out, _ = run_tool("expect", str(folder / "w.expect"))
+    assert status == 1 and "in cycle 1000: level is 7" in out and "initial values" not in out
+
+
 def test_each_kind_of_statement(folder):
     last = third_tick(folder)
     met = f"reaches 0 box.state == BUSY\nnever 1 ticks > 3\nbefore {last + 1}: always 0 ticks < 3\n"
