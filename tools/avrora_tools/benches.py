@@ -436,7 +436,8 @@ class Bench:
             else statement
             for statement in case.statements
         ]
-        return case._replace(path=shipped.path, statements=statements)
+        # No `debug:` line: files of the shipment are gone with the campaign, and the scenario is none of the user's.
+        return case._replace(path=shipped.path, statements=statements, source=None)
 
 
 def with_moves(scenario: str, line: str) -> str:

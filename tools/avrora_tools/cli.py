@@ -67,8 +67,9 @@ def add_simulator(parser: argparse.ArgumentParser) -> None:
 
 def add_watch(parser: argparse.ArgumentParser) -> None:
     parser.add_argument(
-        "--watch", action="append", default=[], metavar="NAME", help="a variable or register, or a pattern: 'queue*'"
-    )
+        "--watch", action="append", default=[], metavar="NAME",
+        help="a variable or register, or a pattern of their names: 'queue*'",
+    )  # fmt: skip
 
 
 def simulator(path: str | None = None) -> str:

@@ -6,7 +6,7 @@ from collections.abc import Mapping, Sequence
 from avrora_tools import cases, runs
 from avrora_tools.errors import BadInput
 from avrora_tools.files import printable
-from avrora_tools.observing.expecting import Observer
+from avrora_tools.observing.expecting import NAMED_BY, Observer
 from avrora_tools.observing.running import Network
 from avrora_tools.programs import Programs
 from avrora_tools.runs import ShippedCase
@@ -43,7 +43,7 @@ class Observers:
             else:
                 found.add_by_content(path, scenario, program.path)
         found.compare_images(scenario)
-        network = Network(scenario, found)
+        network = Network(scenario, found, NAMED_BY)
         if keeps:
             if len(self.networks) >= MOST_NETWORKS:
                 self.networks.clear()

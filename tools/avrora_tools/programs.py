@@ -2,9 +2,10 @@
 in a trace."""
 import argparse
 import bisect
+import functools
 import os
 import re
-from collections.abc import Iterator, Sequence
+from collections.abc import Iterator, Mapping, Sequence
 from typing import Any, NamedTuple
 
 from avrora_tools import cli, elf_files, files, images, instructions, terminal
@@ -98,6 +99,13 @@ class Program:
         place = bisect.bisect_right(self.line_words, word) - 1
         return self.places[place][1] if place >= 0 else None
 
+    @functools.cached_property
+    def declared(self) -> Mapping[int, SourceLine]:
+        """Where functions stand in their sources, by their first words. Their first line of code may be another file's,
+        as where an inlined function comes first."""
+        with elf_files.opened(self.path) as elf:
+            return declared_places(elf)
+
     def place(self, word: int) -> str:
         """The function, offset in bytes, and source line of `word`, as text."""
         function = self.function_at(word)
@@ -185,6 +193,32 @@ def line_places(elf: Any) -> list[tuple[int, SourceLine | None]]:
             else:
                 found.setdefault(state.address // 2, None)
     return sorted(found.items())
+
+
+def declared_places(elf: Any) -> dict[int, SourceLine]:
+    """The first words of functions, each with the line that declares it."""
+    found: dict[int, SourceLine] = {}
+    if not elf.has_dwarf_info():
+        return found
+    dwarf = elf.get_dwarf_info()
+    elf_files.entry_places(dwarf)
+    for unit in dwarf.iter_CUs():
+        program = dwarf.line_program_for_CU(unit)
+        if program is None:
+            continue
+        paths = source_paths(unit, program)
+        base = 0 if program["version"] >= 5 else 1
+        for entry in unit.iter_DIEs():
+            first = entry.attributes.get("DW_AT_low_pc")
+            if entry.tag != "DW_TAG_subprogram" or first is None:
+                continue
+            origin = entry.attributes.get("DW_AT_abstract_origin") or entry.attributes.get("DW_AT_specification")
+            said = entry.get_DIE_from_attribute(origin.name).attributes if origin else entry.attributes
+            if "DW_AT_decl_file" in said and "DW_AT_decl_line" in said:
+                number = said["DW_AT_decl_file"].value - base
+                if 0 <= number < len(paths):  # DWARF 2 to 4 have 0 for no file
+                    found[first.value // 2] = SourceLine(paths[number], said["DW_AT_decl_line"].value)
+    return found
 
 
 def source_paths(unit: Any, program: Any) -> list[str]:

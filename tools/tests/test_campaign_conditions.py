@@ -65,6 +65,40 @@ def test_a_failure_names_cycle_node_value_and_line(folder):
     assert len(re.findall(rf"> {last} 1 ticks: 2 -> 3 by TIMER0_COMP_vect\S* watched\.c:\d+", out)) == 2
 
 
+def test_a_failure_names_no_file_that_is_gone(folder):
+    status, out, err = campaign(folder, "always 1 ticks <= 2\n1..2000 1 serial *\n")
+    assert status == 1, err
+    assert "w.expect, line 3: " in out and "w.expect, line 4: " in out
+    kept = out + "".join(path.read_text(errors="replace") for path in folder.rglob("*") if "results" in str(path) and path.is_file())
+    assert "debug:" not in kept and "tmp/" not in kept, kept
+
+
+def test_expect_says_how_a_case_names_a_program(folder):
+    (folder / "w.expect").write_text("run watched.toml\nalways 1 ticks < 3\n")
+    _, out, _ = run_tool("expect", str(folder / "w.expect"))
+    assert "line 2: `ticks` is no register, and no program is known: `elf FILE` names its ELF file" in out
+    text = run_tool("expect", "--help")[1]
+    for said in ("  elf FILE", "  always NODE CONDITION", "  never NODE CONDITION", "  reaches NODE CONDITION", "  before 9000: always"):
+        assert said in text, text
+
+
+def test_a_failure_before_main_says_what_may_be_meant(folder):
+    """Initial values are written by the code before `main`: until then each is 0."""
+    (folder / "start.c").write_text("#include <stdint.h>\nvolatile uint8_t level = 7;\nint main(void) { for (;;) ; }\n")
+    compiled(folder / "start.c", folder, "-Os")
+    (folder / "start.toml").write_text(SCENARIO.replace("watched", "start"))
+    case = "run start.toml\nelf start.elf\n"
+    (folder / "w.expect").write_text(case + "always 1 level == 7\n")
+    status, out, _ = run_tool("expect", str(folder / "w.expect"))
+    assert status == 1 and "`level == 7` does not hold at node 1 in cycle 0: level is 0\n" in out
+    meant = re.search("initial values come some hundred cycles after reset; `(within 1_000..: always 1 level == 7)` looks", out)
+    (folder / "w.expect").write_text(f"{case}{meant[1]}\n")
+    assert run_tool("expect", str(folder / "w.expect"))[0] == 0
+    (folder / "w.expect").write_text(f"{case}within 1_000..: always 1 level == 8\n")
+    status, out, _ = run_tool("expect", str(folder / "w.expect"))
+    assert status == 1 and "in cycle 1000: level is 7" in out and "initial values" not in out
+
+
 def test_each_kind_of_statement(folder):
     last = third_tick(folder)
     met = f"reaches 0 box.state == BUSY\nnever 1 ticks > 3\nbefore {last + 1}: always 0 ticks < 3\n"
@@ -116,7 +150,7 @@ def test_the_program_of_nodes_that_are_named_and_of_a_network(folder):
     assert status == 1 and "`ticks < 3` does not hold at node 1" in out
     (folder / "w.expect").write_text(case + "always 0 ticks < 3\n")
     status, _, err = run_tool("campaign", "--jobs", "1", str(folder / "c.campaign"))
-    assert status == 2 and "`ticks` is no register, and no program is known" in err
+    assert status == 2 and "`ticks` is no register, and no program is known: `elf FILE` names its ELF file" in err
 
 
 def test_another_program_makes_results_anew(folder):

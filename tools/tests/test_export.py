@@ -14,11 +14,13 @@ import sys
 
 import pytest
 
+from firmware import compiled, needs_compiler
 from support import DATA, TOP, data, needs_module, needs_program, run_tool, scratch
 from avrora_tools.events import EVENTS, event_of
-from avrora_tools.exports import flames, pcapng, perfetto, tables
+from avrora_tools.exports import coverage, flames, pcapng, perfetto, tables
 from avrora_tools.exports.frames import Finder, SentByte
 from avrora_tools.exports.walking import StackReader
+from avrora_tools.programs import Program
 from avrora_tools.scenarios import Scenario
 
 ELF = f"{DATA}/relay.elf"
@@ -235,6 +237,21 @@ def test_lcov_has_what_ran():
 
 
 @pyelftools
+@needs_compiler
+def test_lcov_has_a_function_in_the_file_that_declares_it(tmp_path):
+    """The first code of `main` is that of an inlined function of another file."""
+    (tmp_path / "radio.h").write_text("#include <avr/io.h>\nstatic inline void begin(void)\n{\n    PORTB = 1;\n}\n")
+    (tmp_path / "send.c").write_text('#include "radio.h"\n\nint main(void)\n{\n    begin();\n    for (;;)\n        PINB;\n}\n')
+    program = Program(str(compiled(tmp_path / "send.c", tmp_path, "-Os")))
+    main = next(function.first for function in program.functions if function.name == "main")
+    covered = coverage.Covered()
+    covered.add(program, {main: 2})
+    found = {path.rpartition("/")[2]: source for path, source in coverage.sources(covered).items()}
+    assert found["send.c"].functions["main"] == (3, 2) and not found["radio.h"].functions
+    assert found["radio.h"].lines[4] == 2  # the line of its code stays there
+
+
+@pyelftools
 @needs_program("genhtml", "lcov")
 def test_genhtml_reads_it():
     with scratch("relay.c", "\n" * 200) as source:
@@ -254,6 +271,7 @@ def test_genhtml_reads_it():
 def test_what_wants_a_program_says_so():
     for form in ("callgrind", "folded", "speedscope", "lcov"):
         assert "wants the program (-e)" in exported(form, RELAY[0], RELAY[-1], status=2)
+    assert "export pcapng -s packet.toml -o packet.pcapng packet.trace" in exported("--help")  # flood.toml sends no packets
     assert "wants the scenario (-s)" in exported("pcapng", RELAY[-1], status=2)
     assert "wants the scenario (-s)" in exported("perfetto", RELAY[-1], status=2)
 

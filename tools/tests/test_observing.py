@@ -125,8 +125,11 @@ def test_patterns(names):
     assert {one.name for one in names.matching("PORT?")} == {f"PORT{letter}" for letter in "ABCDEFG"}
     found = {one.name for one in names.matching("*")}
     assert {"box.count", "wide", "twice.last", "box.high"} <= found and "PORTB" not in found
-    with pytest.raises(BadInput, match="is called"):
+    with pytest.raises(BadInput, match=r"is called `zz\*`$"):
         names.matching("zz*")
+    for pattern in ("box.row*", "box.row[1]*"):
+        with pytest.raises(BadInput, match="; a pattern stands for names of variables, and not of their parts: `box` has all of them"):
+            names.matching(pattern)
 
 
 # ---- conditions
@@ -175,7 +178,10 @@ def test_enumerators_stand_for_their_numbers(names):
         ("box.count > 255", "does not hold whatever"),
         ("box.low < 8", "holds whatever"),
         ("BUSY == 5", "names no variable"),
-        ("wide == NOPE", "no variable `NOPE`"),
+        ("wide == NOPE", "no variable `NOPE`$"),
+        ("box.state == BUZY", "no variable `BUZY`; is it `BUSY`"),
+        ("wibe == 1", "no variable `wibe`; is it `wide`"),
+        ("where->count == 1", "`where` is a pointer, and pointers are not followed"),
         ("f(wide)", "has no place in a condition"),
         ("wide if wide else 1", "has no place in a condition"),
         ("wide in (1, 2)", "has no place in a condition|one of =="),
@@ -234,6 +240,16 @@ def test_a_byte_that_changes_again_ends_the_value_before():
 def test_of_values_written_soon_one_behind_another_each_is_whole():
     """wide = 0x00FF; wide = 0x0100; the upper byte of the first is there already."""
     assert moments((163, 0x100, 0xFF), (167, 0x101, 1), (169, 0x100, 0)) == [(163, "wide", 0xFF), (169, "wide", 0x100)]
+
+
+def test_a_bit_field_over_two_bytes_is_one_value():
+    """flags.wide = 300, from bit 2 on: one byte is stored for its lower bits, the other, and the first once more."""
+    field = Quantity("flags.wide", 0x100, Base("uint16_t", 2, UNSIGNED), 10, 2)
+    settler = Settler({0: [field, BYTE]}, {(0, 0): bytes(2), (0, 1): bytes(1)})
+    stored = [(10, 0x100, 0xB0), (13, 0x101, 4), (14, 0x102, 1), (15, 0x102, 2), (16, 0x100, 0xB3), (90, 0x101, 0)]
+    found = settler.moments(Change(cycle, Place(0, Kind.BYTE, at), byte) for cycle, at, byte in stored)
+    told = [(one.cycle, one.quantity.name, one.quantity.number(one.held)) for one in found]
+    assert told == [(14, "byte", 1), (15, "byte", 2), (16, "flags.wide", 300), (90, "flags.wide", 44)]
 
 
 def test_values_come_in_order_of_cycle():

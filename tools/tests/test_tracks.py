@@ -234,6 +234,26 @@ def test_values_closer_than_pixels_are_one_bar():
     ]  # fmt: skip
 
 
+def test_no_line_goes_through_the_text_of_a_number():
+    """A line before it reads as a minus sign."""
+    track = Track("x", Look.NUMBER)
+    for cycle in range(0, 2_000, 100):
+        track.add(cycle, str(number := cycle // 100 % 9), number)
+    found = [tree.fromstring(shape) for shape in wave_pictures.shapes(track, 0, 100, lambda cycle: cycle / 2, 2_000)]
+    texts = [(float(one.get("x")), float(one.get("y")), one.text) for one in found if one.tag == "text"]
+    assert [text for *_, text in texts] == [str(at % 9) for at in range(20)]
+    (path,) = (one.get("d") for one in found if one.tag == "path")
+    lines, at = [], (0.0, 0.0)
+    for letter, x, y in re.findall(r"([MLHV])([\d.]+)(?: ([\d.]+))?", path):
+        before, at = at, {"H": (float(x), at[1]), "V": (at[0], float(x))}.get(letter) or (float(x), float(y))
+        lines += [(before[0], at[0], at[1])] if letter == "H" else []
+    assert len(lines) == 20 and all(behind > begin for begin, behind, _ in lines)
+    for x, y, text in texts:
+        high = wave_pictures.SIZE * 0.8
+        crossed = [line for line in lines if x - 3 < line[1] and line[0] < x + 7 and y - high < line[2] < y]
+        assert all(line[1] <= x - 3 for line in crossed), (text, crossed)
+
+
 # ---- in a browser
 
 # What is chosen by keys, told of a variable, and painted; another order of rows where they are switched off.
@@ -245,6 +265,13 @@ const said = [];
 press("ArrowDown"); press("ArrowDown"); said.push(detail());
 press("."); said.push(detail());
 press(","); press(","); press(","); said.push(detail());
+// Numbers through whose text, or right before it, a line is painted, which would read as a minus sign.
+const lines = [], texts = [], pens = CanvasRenderingContext2D.prototype, { fillRect, fillText } = pens;
+pens.fillRect = function (x, y, wide, high) { if (high === 1.2 && wide > 1.2) lines.push([x, x + wide, y]); fillRect.apply(this, arguments); };
+pens.fillText = function (text, x, y) { if (/^[0-3]$/.test(text) && /mono/.test(this.font)) texts.push([x, y]); fillText.apply(this, arguments); };
+timeline.paint();
+const crossed = texts.filter(([x, y]) => lines.some(([begin, end, at]) => begin < x + 6 && end > x - 2 && at > y - 8 && at < y - 0.5));
+said.push(texts.length, crossed.length);
 const before = document.getElementById("sky").style.height;
 const box = document.querySelector("input[data-kind=track]"); box.checked = false; box.dispatchEvent(new Event("change"));
 said.push(parseInt(before) > 0, timeline.data.nodes[0].tracks.length, document.getElementById("track-key").hidden);
@@ -271,9 +298,10 @@ def test_in_a_browser(folder):
         except subprocess.SubprocessError as fault:
             pytest.skip(f"chromium: {fault}")
     assert "<pre>" in done.stdout, done.stdout[-2000:]
-    first, after, last, *rest, _ = done.stdout[done.stdout.index("<pre>") + 5 :].split("|")
+    first, after, last, texts, crossed, *rest, _ = done.stdout[done.stdout.index("<pre>") + 5 :].split("|")
     cycle = told_by_changes(folder, 0, "box.state")[0][0]
     assert first.startswith("node 0 watched: box.state = ") and "-n 0 -w 'box.state' --last-before" in first
     assert f"box.state = BUSY, before IDLE in cycle {cycle:,}" in first + after
     assert last.startswith("node 0 watched: box.state = IDLE in cycle 0")
+    assert (texts, crossed) == ("8", "0")
     assert rest == ["true", "2", "false"]

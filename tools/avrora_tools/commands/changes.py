@@ -18,7 +18,7 @@ SUMMARY = "who wrote a variable, when, and with which value"
 DESCRIPTION = f"""Runs a scenario and tells each change of variables and registers: the cycle of the write, the node,
 the value before and the new one, and the instruction that wrote it, by function and source line, with the handler that
 it ran in. NAME is a variable (static in a function: FUNCTION.NAME), a part of one such as queue.items[3].length, a
-register (PORTB, SP, SREG, r24), a bit of one (PORTB.3, SREG.I), or a pattern such as 'queue*'. An array or a structure
+register (PORTB, SP, SREG, r24), a bit of one (PORTB.3, SREG.I), or a pattern of names: 'queue*'. An array or a structure
 stands for all that is in it.
 
   --last-before CYCLE   the last change of each before that cycle, and no other

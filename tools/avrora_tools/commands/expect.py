@@ -25,7 +25,12 @@ DESCRIPTION = """Checks traces against cases, and writes TAP 13. A case is a tex
   never * * stop *            no such row between the row above and the one below
   count == 5: * 4 serial *    how many rows there are in all
   text 4 "relay"              what a node wrote to USART0 has this in it; also: matches "EXPRESSION", lines == 5
-  within 0..40_000: text 4 "r"   before never, count and text
+  within 0..40_000: text 4 "r"   before never, count and text, and what follows
+  elf FILE                    the program whose variables are named below; or NODES=FILE
+  always NODE CONDITION       in each cycle this holds of the node's variables: always 1 queued <= 3
+  never NODE CONDITION        in no cycle
+  reaches NODE CONDITION      in one cycle at least
+  before 9000: always 1 ok    the same as within 0..8999
   golden relay.rows           all rows that are looked at are those of the file; `without cycles` behind it
 
 Files are looked for from the case's folder. A trace must be whole, with an end row of each of its nodes.

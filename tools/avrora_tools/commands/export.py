@@ -40,7 +40,7 @@ class Format(NamedTuple):
 
 
 def configure(parser: argparse.ArgumentParser) -> None:
-    cli.describe(parser, DESCRIPTION, "export pcapng -s flood.toml -o flood.pcapng flood.trace")
+    cli.describe(parser, DESCRIPTION, "export pcapng -s packet.toml -o packet.pcapng packet.trace")
     formats = parser.add_subparsers(dest="format", metavar="FORMAT", required=True)
     for name, form in FORMATS.items():
         one = formats.add_parser(name, help=form.summary)

@@ -33,13 +33,13 @@ def sources(covered: Covered) -> dict[str, Source]:
         for function in program.functions:
             for word in program.instructions(function):
                 at = program.source_line_at(word)
-                if at is None or not at.line:
-                    continue
-                own[at.path][at.line] = max(own[at.path][at.line], counts[word])
-                if word == function.first:
-                    name = str(function.name)
-                    before = found[at.path].functions.get(name, (at.line, 0))
-                    found[at.path].functions[name] = before[0], before[1] + counts[word]
+                if at is not None and at.line:
+                    own[at.path][at.line] = max(own[at.path][at.line], counts[word])
+            stands = program.declared.get(function.first) or program.source_line_at(function.first)
+            if stands is not None and stands.line:
+                name = str(function.name)
+                before = found[stands.path].functions.get(name, (stands.line, 0))
+                found[stands.path].functions[name] = before[0], before[1] + counts[function.first]
         for path, its_lines in own.items():
             for line, count in its_lines.items():
                 found[path].lines[line] += count

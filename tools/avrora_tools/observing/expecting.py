@@ -18,6 +18,9 @@ from avrora_tools.opening import Where
 from avrora_tools.programs import Programs
 from avrora_tools.scenarios import Scenario
 
+NAMED_BY = "`elf FILE`"  # how a case names a program
+STARTING = 1_000  # cycles from reset in which the code before `main` may still write initial values
+
 
 def parts_of(word: str) -> tuple[str, str]:
     """What an `elf` of a case says: NODES, or nothing, and FILE."""
@@ -68,6 +71,13 @@ class Follower:
         return (self.decided is not None) == (self.stated.word == "reaches")
 
 
+def hint(it: Follower) -> Iterator[str]:
+    """What may be meant instead, where what decided may come before initial values are there."""
+    if it.decided and it.decided[0] < STARTING and it.stated.word != "reaches":
+        stated = f"{it.stated.word} {it.stated.node} {it.stated.text}"
+        yield f"initial values come some hundred cycles after reset; `within {STARTING:_}..: {stated}` looks from then on"
+
+
 class Observer:
     """Judges the conditions of a case over a run."""
 
@@ -85,7 +95,7 @@ class Observer:
         path = os.path.join(case.folder, (case.source or ("", ""))[1])
         scenario = Scenario.load(path)
         words = [beside(case, word) for word in case.elfs]
-        return cls(case, simulator, path, scenario, Network(scenario, Programs(words, scenario)))
+        return cls(case, simulator, path, scenario, Network(scenario, Programs(words, scenario), NAMED_BY))
 
     def read(self, one: Stated) -> Watched:
         count = len(self.scenario.images)
@@ -120,7 +130,7 @@ class Observer:
         with history(self.path, self.simulator) as past:
             writers = Writers(past)
             for it in unmet:
-                lines = [f"{self.name}, line {it.stated.line}: {self.why(it)}", *self.writer(it, writers)]
+                lines = [f"{self.name}, line {it.stated.line}: {self.why(it)}", *self.writer(it, writers), *hint(it)]
                 if it.decided:
                     moment = it.decided[1].moment
                     where = Where(moment.cycle, moment.node) if moment else Where(it.decided[0], it.stated.node)

@@ -24,6 +24,7 @@ from avrora_tools.variables import (
     Member,
     Memory,
     Opaque,
+    Pointer,
     Renamed,
     Structure,
     Type,
@@ -95,6 +96,7 @@ class Names:
     """The names that a node's program gives to quantities; registers alone where no program is known."""
 
     program: Program | None
+    named_by: str = "-e"  # how the user names a program
     view: View | None = field(init=False, default=None)
     targets: Targets = field(init=False)
 
@@ -112,7 +114,7 @@ class Names:
 
     @property
     def whose(self) -> str:
-        return self.program.name if self.program else "no program (-e)"
+        return self.program.name if self.program else f"no program ({self.named_by})"
 
     # ---- one by its name
 
@@ -162,6 +164,8 @@ class Names:
     def stepped(self, whole: Quantity, match: re.Match[str]) -> Quantity:
         type_ = bare(whole.type)
         name = whole.name + match[0]
+        if isinstance(type_, Pointer):
+            raise BadInput(f"`{whole.name}` is a pointer, and pointers are not followed: name what it points to")
         if match[2] is not None and isinstance(type_, Array):
             if (number := int(match[2])) >= type_.count:
                 raise BadInput(f"`{whole.name}` has {type_.count} elements, from [0] on, and no [{number}]")
@@ -185,10 +189,13 @@ class Names:
         first = re.split(r"[.\[]", name, maxsplit=1)[0]
         shown = files.printable(name)
         if self.program is None:
-            return f"`{shown}` is no register, and no program is known: -e names its ELF file"
+            return f"`{shown}` is no register, and no program is known: {self.named_by} names its ELF file"
         if why := why_without_place(self.program.path, name, first):
             return f"{self.whose}: `{shown}` {why}"
-        near = difflib.get_close_matches(name, [*self.variables, *REGISTER_NAMES], 1)
+        enumerators = enumerators_of(self)
+        if name in enumerators:
+            return f"{self.whose}: `{shown}` is an enumerator, and no variable"
+        near = difflib.get_close_matches(name, [*self.variables, *REGISTER_NAMES, *enumerators], 1)
         return f"{self.whose}: it has no variable `{shown}`" + (f"; is it `{near[0]}`?" if near else "")
 
     # ---- many by a pattern
@@ -199,7 +206,7 @@ class Names:
         if any(letter in pattern for letter in "*?"):
             found = list(self.globbed(pattern))
             if not found:
-                raise BadInput(f"{self.whose}: no variable or register is called `{files.printable(pattern)}`")
+                raise BadInput(self.why_none_matches(pattern))
         else:
             found = list(self.leaves(self.part(pattern)))
         if len(found) > MOST_OF_A_PATTERN:
@@ -208,6 +215,14 @@ class Names:
                 "name some of them"
             )
         return found
+
+    def why_none_matches(self, pattern: str) -> str:
+        """Why a pattern stands for nothing."""
+        why = f"{self.whose}: no variable or register is called `{files.printable(pattern)}`"
+        head = re.split(r"[.\[*?]", pattern, maxsplit=1)[0]
+        if head not in self.variables:
+            return why
+        return f"{why}; a pattern stands for names of variables, and not of their parts: `{head}` has all of them"
 
     def globbed(self, pattern: str) -> Iterator[Quantity]:
         for name, found in self.variables.items():

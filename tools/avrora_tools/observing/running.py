@@ -148,16 +148,16 @@ def read(node: Node, address: int, size: int) -> bytes:
 
 
 class Network:
-    """The names of all nodes of a scenario, by their programs."""
+    """The names of all nodes of a scenario, by their programs. Messages say how the user names a program."""
 
-    def __init__(self, scenario: Scenario, programs: Programs) -> None:
-        self.scenario, self.programs = scenario, programs
+    def __init__(self, scenario: Scenario, programs: Programs, named_by: str = "-e") -> None:
+        self.scenario, self.programs, self.named_by = scenario, programs, named_by
         self.by_program: dict[Program | None, Names] = {}
 
     def names(self, node: int) -> Names:
         program = self.programs.of(node)
         if program not in self.by_program:
-            self.by_program[program] = Names(program)
+            self.by_program[program] = Names(program, self.named_by)
         return self.by_program[program]
 
     def selected(self, words: Sequence[str], nodes: Sequence[int]) -> dict[int, list[Quantity]]:

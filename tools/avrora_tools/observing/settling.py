@@ -2,7 +2,8 @@
 
 A value of several bytes is written byte by byte: between two of them it is neither the old nor the new one. So a new
 value counts from its last byte on, once no other byte of it changes for SETTLING cycles; what stands half written for
-longer than that, as where an interrupt comes between, is a value too. With `torn` each byte counts at once."""
+longer than that, as where an interrupt comes between, is a value too. A byte that is written once more ends the value
+before; not so of a bit-field, whose bytes are read, changed and stored part by part. With `torn` each byte counts at once."""
 import bisect
 from collections.abc import Iterable, Iterator, Mapping, Sequence
 from dataclasses import dataclass, field
@@ -67,8 +68,12 @@ class Settler:
         waiting.append(byte)
         if self.torn or len(self.known[key]) == 1:
             self.settle(key, 1)
-        elif any(one.offset == byte.offset for one in waiting[:-1]):
+        elif not self.is_field(key) and any(one.offset == byte.offset for one in waiting[:-1]):
             self.settle(key, widest_gap(waiting))  # the same byte once more: what stood before was whole
+
+    def is_field(self, key: Key) -> bool:
+        """Whether a quantity is a bit-field: the compiler stores a byte of it once for each of its parts."""
+        return self.quantities[key[0]][key[1]].bits is not None
 
     def settle(self, key: Key, count: int) -> None:
         """Makes the first bytes that wait, so many, a new value."""

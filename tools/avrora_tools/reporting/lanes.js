@@ -3,7 +3,8 @@
 // watched, and a strip above of the whole run.
 
 const TOP = 24, RIGHT = 10, LEAST_ROW = 14, MOST_ROW = 190, ROOMY = 42, DETAIL = 130, STRIP = 38,
-  TRACK = 19, NAMED = 11, MOST_NAME = 210, LOWEST = 0.12;
+  TRACK = 19, NAMED = 11, MOST_NAME = 210, LOWEST = 0.12,
+  ASIDE = 4, LETTERS = 13;  // between a value's edge and its text, and how far above the base line letters reach
 // Of a roomy lane: where each part begins, and how high it is.
 const BAND = { sent: [0.06, 0.34], serial: [0.40, 0.26], heard: [0.70, 0.28] };
 const PAINTS = ["paper", "panel", "ink", "faint", "rule", "focus", "sent", "heard", "clash", "quiet", "serial",
@@ -195,17 +196,21 @@ function makeLanes(it, root, events, shown, isPainted) {
         pen.globalAlpha = 1;
       }
       pen.globalAlpha = 0.2; pen.fillRect(begin, low - high * level, end - begin, high * level); pen.globalAlpha = 1;
-      pen.fillRect(begin, low - high * level, end - begin, 1.2);
+      const room = Math.floor((end - begin - 7) / letter);
+      const words = room < Math.min(text.length, 3) || (track.look === "flag" && room <= 8) ? ""
+        : text.length <= room ? text : text.slice(0, room - 1) + "\u2026";
+      // A line through letters reads as a minus sign before them: it begins behind the text of a number.
+      const isCrossed = words && track.look === "number" && high * level > 1.8 && high * level < LETTERS;
+      const behind = isCrossed ? Math.min(end, begin + ASIDE * 2 + letter * words.length) : begin;
+      pen.fillRect(behind, low - high * level, end - behind, 1.2);
       if (changes[last][0] > data.first && x(changes[last][0]) >= left) {
         const before = i > 0 ? levelOf(changes[i - 1][1]) : 0, edge = Math.max(before, level);
         const foot = track.look === "name" ? 0 : Math.min(before, level);
         pen.fillRect(begin, low - high * edge, 1.2, Math.max(1.2, high * (edge - foot)));
       }
-      const room = Math.floor((end - begin - 7) / letter);
-      if (room >= Math.min(text.length, 3) && (track.look !== "flag" || room > 8)) {
-        const words = text.length <= room ? text : text.slice(0, room - 1) + "\u2026";
-        pen.strokeStyle = colours.paper; pen.lineWidth = 3; pen.strokeText(words, begin + 4, low - 3);
-        pen.fillStyle = colours.ink; pen.fillText(words, begin + 4, low - 3);
+      if (words) {
+        pen.strokeStyle = colours.paper; pen.lineWidth = 3; pen.strokeText(words, begin + ASIDE, low - 3);
+        pen.fillStyle = colours.ink; pen.fillText(words, begin + ASIDE, low - 3);
       }
       i = last;
     }
