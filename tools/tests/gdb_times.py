@@ -91,6 +91,8 @@ def measure(folder: pathlib.Path, name: str, draw: random.Random) -> None:
         say(name, "reverse-continue over a second, first", [gdb.type("reverse-continue").seconds])
         stand(gdb, SECOND)
         say(name, "reverse-continue over a second, again", [gdb.type("reverse-continue").seconds])
+        stand(gdb, 2 * SECOND)
+        say(name, "monitor console, at the end", [gdb.type("monitor console").seconds])
         gdb.type("delete")
         gdb.type("watch silent if silent == 77")  # no sink comes to that
         stand(gdb, 0)
