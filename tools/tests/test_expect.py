@@ -1,5 +1,6 @@
 """Expectations of a trace, met and not met, each by hand."""
 import os
+import re
 import signal
 import subprocess
 import sys
@@ -591,6 +592,18 @@ class Command(unittest.TestCase):
             status, out, err = run_tool("expect", path)
         self.assertEqual((status, out, err), (1, out, ""))  # 25 are sent: five bytes by five nodes
         self.assertIn("== 24 rows wanted, 25 came:", out)
+
+    def test_a_file_that_is_no_case_does_not_stop_the_others(self):
+        for jobs in ("1", "2"):
+            with scratch("good.expect", "text 4 'relay'\n") as good, scratch("bad.expect", "tekst 4 'yes'\n") as bad, scratch(
+                "no.expect", "only 3\n"
+            ) as none:
+                words = ["expect", "--jobs", jobs, "--trace", f"{DATA}/relay.trace", bad, good, none]
+                status, out, err = run_tool(*words)
+            self.assertEqual((status, err), (2, ""))
+            self.assertRegex(out, rf"(?m)^not ok 1 - {re.escape(bad)}\n  ---\n  message: \|\n    {re.escape(bad)}, line 1: ")
+            self.assertIn(f"\nok 2 - {good} # 260 rows, 1 expectations\n", out)
+            self.assertIn(f"\nnot ok 3 - {none}\n  ---\n  message: |\n    {none}: a case without an expectation\n", out)
 
     def test_tap(self):
         with scratch("a.expect", "text 4 'relay'\ncount == 25: * * sent *\n") as good, scratch(

@@ -1,10 +1,11 @@
 """Checks traces against cases: regression tests of firmware and networks."""
 import argparse
 import functools
+import os
 import shlex
 import time
 from collections.abc import Iterable, Iterator, Sequence
-from typing import Any
+from typing import Any, NamedTuple
 
 import avrora_tools
 from avrora_tools import cli, expectations, files, processes, showing, terminal, traces
@@ -59,7 +60,7 @@ def configure(parser: argparse.ArgumentParser) -> None:
 def run(arguments: argparse.Namespace) -> int:
     if arguments.trace == "-" and len(arguments.case) > 1:
         raise BadWords("--trace - is read once, so it serves one case")
-    cases = [expectations.read_case(path) for path in arguments.case]
+    cases = [read(path, len(arguments.case) == 1) for path in arguments.case]
     avrora = None if arguments.trace else cli.simulator(arguments.avrora)
     junit_xml = junit_module() if arguments.junit else None
     print(f"TAP version 13\n1..{len(cases)}", flush=True)
@@ -74,14 +75,32 @@ def run(arguments: argparse.Namespace) -> int:
     return max(result.outcome.status for result in results)
 
 
-def results_of(cases: list[Case], arguments: argparse.Namespace, avrora: str | None) -> Iterator[Checked]:
+class Read(NamedTuple):
+    """A case, and why its file is none."""
+
+    case: Case
+    fault: ToolError | None = None
+
+
+def read(path: str, is_alone: bool) -> Read:
+    """The case in a file. Where it is none its outcome says so, and others are checked all the same; a file that is alone
+    is refused."""
+    try:
+        return Read(expectations.read_case(path))
+    except ToolError as fault:
+        if is_alone:
+            raise
+        return Read(Case(path, os.path.dirname(path), None, None, None, []), fault)
+
+
+def results_of(cases: list[Read], arguments: argparse.Namespace, avrora: str | None) -> Iterator[Checked]:
     """What came of the cases, in their order."""
-    works = [functools.partial(checked, case, arguments, avrora) for case in cases]
+    works = [functools.partial(checked, one, arguments, avrora) for one in cases]
     if arguments.jobs == 1 and not arguments.timeout:
-        yield from (Checked(case, *work()) for case, work in zip(cases, works))
+        yield from (Checked(one.case, *work()) for one, work in zip(cases, works))
         return
     tasks = processes.in_order(works, arguments.jobs, arguments.timeout, expectations.RUNS.end_all)
-    for case, task in zip(cases, tasks):
+    for (case, _), task in zip(cases, tasks):
         try:
             outcome, seconds = task.answer()
         except processes.Late:
@@ -91,10 +110,13 @@ def results_of(cases: list[Case], arguments: argparse.Namespace, avrora: str | N
         yield Checked(case, outcome, seconds)
 
 
-def checked(case: Case, arguments: argparse.Namespace, avrora: str | None) -> tuple[Outcome, float]:
+def checked(one: Read, arguments: argparse.Namespace, avrora: str | None) -> tuple[Outcome, float]:
     """What came of a case, and the seconds that it took."""
     start = time.monotonic()
+    case = one.case
     try:
+        if one.fault:
+            raise one.fault
         if arguments.trace:
             name = files.shown(arguments.trace)
             blocks = traces.file_blocks(arguments.trace)
