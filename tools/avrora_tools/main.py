@@ -18,7 +18,7 @@ import avrora_tools
 from avrora_tools import commands
 from avrora_tools.errors import BadWords, Status, ToolError
 from avrora_tools.showing import printable
-from avrora_tools.terminal import Speaker, say
+from avrora_tools.terminal import PACKAGE, Speaker, say
 from avrora_tools.cli import Parser
 
 # Asks for the traceback of what ends a tool, as --traceback before the subcommand does.
@@ -58,6 +58,7 @@ def usage() -> str:
 
 def run(words: Sequence[str]) -> int:
     """Runs a subcommand on its words; returns its status, or raises what ended it."""
+    Speaker.name = PACKAGE
     if not words:
         raise BadWords("a tool is to be named; --help tells all of them")
     name, *rest = words
@@ -69,7 +70,7 @@ def run(words: Sequence[str]) -> int:
         return Status.GOOD
     if name not in names():
         raise BadWords(f"no tool is called {printable(name)}; --help tells all of them")
-    Speaker.name = f"avrora-tools {name}"
+    Speaker.name = f"{PACKAGE} {name}"
     module = command(name)
     parser = Parser(prog=Speaker.name)
     module.configure(parser)

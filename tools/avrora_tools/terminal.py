@@ -8,10 +8,13 @@ from avrora_tools.errors import CannotWork
 from avrora_tools.showing import printable, printable_lines
 
 
+PACKAGE = "avrora-tools"
+
+
 class Speaker:
     """Under which name the lines of the standard error stand."""
 
-    name: ClassVar[str] = "avrora-tools"
+    name: ClassVar[str] = PACKAGE
 
 
 def say(text: str) -> None:

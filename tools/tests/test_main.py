@@ -129,6 +129,7 @@ class Command(unittest.TestCase):
                 self.assertIn(f"example:\n  avrora-tools {name} ", out)
 
     def test_bad_words(self):
+        run_tool("console", "--nope")  # after which a call without a tool has the package's name again
         for words, said in (
             ([], "avrora-tools: a tool is to be named; --help tells all of them\n"),
             (["nothing"], "avrora-tools: no tool is called nothing; --help tells all of them\n"),
