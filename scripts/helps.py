@@ -15,8 +15,8 @@ HEAD = """\
 For people who change the program or its documents: what can be run here besides `./avrora` and the tools. Each script
 takes `--help`, which names its words. `scripts/check_docs.py --index` writes this page.
 
-Where nothing changed, `./avrora` takes 33 ms of a processor beside the program, as `bench/launcher.py` measured it on a
-busy virtual Xeon at 2.5 GHz; by the clock it took 41 ms. It must stay below 40 ms of a processor.
+Where nothing changed, `./avrora` takes 29 ms beside the program, of a processor and by the clock, as `bench/launcher.py`
+measured it on a virtual Xeon at 2.5 GHz with nothing else at work. It must stay below 40 ms.
 
 | Script | What it does first of all |
 |---|---|
