@@ -145,7 +145,7 @@ def words_of(world):
     draw = world.draw
     calls = CALLS + OF_THE_PROGRAM if PROGRAM else CALLS
     text = draw.choice(CAMPAIGNS if world.has_campaign and draw.random() < 0.7 else calls)
-    world.asks_program = text in OF_THE_PROGRAM
+    world.asks_program = PROGRAM is not None and text in OF_THE_PROGRAM
     folder, at = draw.choice(
         [
             (world.repo, ""),
