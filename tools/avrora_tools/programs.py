@@ -177,13 +177,7 @@ def line_places(elf: Any) -> list[tuple[int, SourceLine | None]]:
     if not elf.has_dwarf_info():
         return []
     found: dict[int, SourceLine | None] = {}
-    dwarf = elf.get_dwarf_info()
-    for unit in dwarf.iter_CUs():
-        program = dwarf.line_program_for_CU(unit)
-        if program is None:
-            continue
-        paths = source_paths(unit, program)
-        base = 0 if program["version"] >= 5 else 1
+    for _, program, paths, base in line_programs(elf.get_dwarf_info()):
         for entry in program.get_entries():
             state = entry.state
             if state is None:
@@ -202,12 +196,7 @@ def declared_places(elf: Any) -> dict[int, SourceLine]:
         return found
     dwarf = elf.get_dwarf_info()
     elf_files.entry_places(dwarf)
-    for unit in dwarf.iter_CUs():
-        program = dwarf.line_program_for_CU(unit)
-        if program is None:
-            continue
-        paths = source_paths(unit, program)
-        base = 0 if program["version"] >= 5 else 1
+    for unit, _, paths, base in line_programs(dwarf):
         for entry in unit.iter_DIEs():
             first = entry.attributes.get("DW_AT_low_pc")
             if entry.tag != "DW_TAG_subprogram" or first is None:
@@ -219,6 +208,14 @@ def declared_places(elf: Any) -> dict[int, SourceLine]:
                 if 0 <= number < len(paths):  # DWARF 2 to 4 have 0 for no file
                     found[first.value // 2] = SourceLine(paths[number], said["DW_AT_decl_line"].value)
     return found
+
+
+def line_programs(dwarf: Any) -> Iterator[tuple[Any, Any, list[str], int]]:
+    """Each compilation unit that has lines, with its line program, the paths of its files, and the number of the first."""
+    for unit in dwarf.iter_CUs():
+        program = dwarf.line_program_for_CU(unit)
+        if program is not None:
+            yield unit, program, source_paths(unit, program), 0 if program["version"] >= 5 else 1
 
 
 def source_paths(unit: Any, program: Any) -> list[str]:
