@@ -72,6 +72,33 @@ def add_watch(parser: argparse.ArgumentParser) -> None:
     )  # fmt: skip
 
 
+def add_checks(parser: argparse.ArgumentParser) -> None:
+    """What a right run is, one of three: --expect, --check, --always."""
+    parser.add_argument("--expect", metavar="CASE", help="check each run by this case of `expect`")
+    parser.add_argument("--check", metavar="FILE", help="check each run by the function check(run) of this Python file")
+    parser.add_argument(
+        "--always",
+        action="append",
+        metavar="'NODE CONDITION'",
+        help="check that this holds of a node's variables (-e) in every cycle of each run: '1 queued <= 3'",
+    )
+
+
+def one_check(arguments: argparse.Namespace) -> None:
+    """Refuses two of the checks of `add_checks`, and --always on a cluster."""
+    if len([it for it in (arguments.expect, arguments.check, arguments.always) if it]) > 1:
+        raise BadWords("one of --expect, --check and --always")
+    if arguments.always and arguments.scheduler:
+        raise BadWords("--always is of runs of this machine")
+
+
+def check_words(arguments: argparse.Namespace) -> list[str]:
+    """The check of `add_checks` as words again; none where there is none."""
+    words = ["--expect", arguments.expect] if arguments.expect else []
+    words += ["--check", arguments.check] if arguments.check else []
+    return words + [word for condition in arguments.always or () for word in ("--always", condition)]
+
+
 def simulator(path: str | None = None) -> str:
     """The program to run: `path`, else what the environment names, else `avrora` at the top of this repository."""
     named = path or os.environ.get(PROGRAM_VARIABLE) or os.environ.get(SIMULATOR_VARIABLE)

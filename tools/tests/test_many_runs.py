@@ -1,10 +1,13 @@
 """Pages of many runs: of cases, of a campaign, of a sweep; and findings as data."""
 import collections
 import re
+import shlex
 import shutil
 
 import pytest
 
+from avrora_tools import cli
+from avrora_tools.commands import sweep as sweep_command
 from avrora_tools.errors import BadInput
 from avrora_tools.reporting import campaign_sections, case_sections, findings
 from avrora_tools.reporting.campaign_sections import Histogram, Values
@@ -222,3 +225,20 @@ def test_the_page_of_a_sweep_says_what_the_terminal_says(tmp_path):
     moves = [text for what, text in search.findings[0].details if what == "moves"]
     assert f"   moves: {moves[0]}\n" in said and "400 in" in dict(search.facts)["moves"]
     assert page.text.count(" fails</title>") >= 1 and " passes</title>" in page.text
+    spelled = {"-e": "--elf", "530_000": "530000"}
+    assert sorted(shlex.split(search.commands[0])[2:]) == sorted(spelled.get(it, it) for it in words)
+
+
+def test_the_command_of_a_page_says_all_that_decides_a_sweep():
+    parser = cli.Parser()
+    sweep_command.configure(parser)
+    said = "--input 0:0=10..20 --start 1=5..6 --alone --until 30 --state s --check c.py --compare lines --drop x --nodes 0,2-4"
+    said += " --base 7 --base 8 --elf p.elf --force --all --quick --grid 8 --per-place 3 --stop --runs 9"
+    not_said = "--html h --findings f --out o --seconds 4 --resume r --jobs 2"
+    arguments = parser.parse_args(f"{said} {not_said} net.toml".split())
+    command = sweep_command.own_command(arguments).split()
+    assert command[:2] == ["avrora-tools", "sweep"] and sorted(command[2:]) == sorted(f"{said} net.toml".split())
+    again = parser.parse_args(command[2:])
+    assert {**vars(again), **dict.fromkeys(("html", "findings", "out", "seconds", "resume", "jobs"))} == {
+        **vars(arguments), **dict.fromkeys(("html", "findings", "out", "seconds", "resume", "jobs"))
+    }  # fmt: skip

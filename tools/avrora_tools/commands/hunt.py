@@ -52,10 +52,7 @@ SLACK = 8  # a run goes on by this share behind the deadline, where the scenario
 
 
 def run(arguments: argparse.Namespace) -> int:
-    if len([it for it in (arguments.expect, arguments.check, arguments.always) if it]) > 1:
-        raise BadWords("one of --expect, --check and --always")
-    if arguments.always and arguments.scheduler:
-        raise BadWords("--always is of runs of this machine")
+    cli.one_check(arguments)
     if arguments.processor_minutes and arguments.scheduler:
         raise BadWords("--processor-minutes are those of this machine: --minutes N with --scheduler")
     document, until = prepared_document(arguments)
@@ -93,10 +90,8 @@ def run(arguments: argparse.Namespace) -> int:
 
 def check_words(arguments: argparse.Namespace, hunt: Hunt) -> list[str]:
     """The words by which `sweep` checks its runs as this hunt does."""
-    if arguments.always:
-        return [word for condition in arguments.always for word in ("--always", condition)]
-    if arguments.expect or arguments.check:
-        return ["--expect", arguments.expect] if arguments.expect else ["--check", arguments.check]
+    if words := cli.check_words(arguments):
+        return words
     has_lines = any(b"\n" in text for text in hunt.reference.texts.values())
     return ["--compare", (Compare.LINES if has_lines else Compare.ANY_ORDER).value]
 
@@ -187,14 +182,7 @@ def configure(parser: argparse.ArgumentParser) -> None:
     parser.add_argument(
         "--until", type=cli.positive, metavar="CYCLE", help="all must come by then; runs go on to the scenario's end"
     )
-    parser.add_argument("--expect", metavar="CASE", help="check each run by this case of `expect`")
-    parser.add_argument("--check", metavar="FILE", help="check each run by the function check(run) of this Python file")
-    parser.add_argument(
-        "--always",
-        action="append",
-        metavar="'NODE CONDITION'",
-        help="check that this holds of a node's variables (-e) in every cycle of each run: '1 queued <= 3'",
-    )
+    cli.add_checks(parser)
     cli.add_nodes(parser)
     parser.add_argument("--minutes", type=cli.positive, default=MINUTES, metavar="N", help="how long (%(default)s)")
     parser.add_argument(

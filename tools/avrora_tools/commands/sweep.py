@@ -18,6 +18,7 @@ from avrora_tools.states import State
 from avrora_tools.sweeping.always import AlwaysCheck, always_check
 from avrora_tools.sweeping.cluster import WRITTEN, ClusterTails
 from avrora_tools.sweeping.events import InputByte, Move, Moved, MovedScenario, moved_scenario, parsed_event
+from avrora_tools.sweeping.findings import ranges
 from avrora_tools.sweeping.journal import Journal, digest
 from avrora_tools.sweeping.limits import Limit
 from avrora_tools.sweeping.rows import stops, written, written_before
@@ -109,13 +110,22 @@ def seconds_of_one(sweep: Sweep) -> float:
 
 
 def own_command(arguments: argparse.Namespace) -> str:
-    """A command that makes the sweep again."""
+    """A command that makes the same runs and judges them so again, on this machine."""
     words = [word for option, value in arguments.moved for word in (f"--{option}", value)]
-    words += ["--until", str(arguments.until)] if arguments.until else []
-    words += ["-e", arguments.elf] if arguments.elf else []
-    words += ["--expect", arguments.expect] if arguments.expect else []
-    words += [word for condition in arguments.always or [] for word in ("--always", condition)]
-    return shlex.join(["avrora-tools", "sweep", files.shown(arguments.scenario), *map(files.printable, words)])
+    for option in ("until", "state", "elf", "drop", "per_place", "runs"):
+        words += valued(option, getattr(arguments, option))
+    words += [f"--{option}" for option in ("alone", "force", "all", "quick", "stop") if getattr(arguments, option)]
+    words += ["--nodes", ranges(sorted(arguments.nodes))] if arguments.nodes else []
+    words += [word for value in arguments.base or () for word in ("--base", str(value))]
+    words += valued("compare", arguments.compare if arguments.compare != Compare.BYTES.value else None)
+    words += valued("grid", arguments.grid if arguments.quick else None)
+    words += cli.check_words(arguments)
+    return shlex.join(["avrora-tools", "sweep", *map(files.printable, words), files.shown(arguments.scenario)])
+
+
+def valued(option: str, value: object) -> list[str]:
+    """An option with its value as words; none where it has none."""
+    return [f"--{option.replace('_', '-')}", str(value)] if value else []
 
 
 def write_pages(arguments: argparse.Namespace, sweep: Sweep, search: Search) -> None:
@@ -136,10 +146,7 @@ def prepared(arguments: argparse.Namespace, limit: Limit | None = None) -> Itera
     moved, order = moved_events(arguments)
     if arguments.quick and not (arguments.elf and isinstance(moved[-1].event, InputByte)):
         raise BadWords("--quick goes by what handlers share with main: it needs -e, and a byte that moves")
-    if len([it for it in (arguments.expect, arguments.check, arguments.always) if it]) > 1:
-        raise BadWords("one of --expect, --check and --always")
-    if arguments.always and arguments.scheduler:
-        raise BadWords("--always is of runs of this machine")
+    cli.one_check(arguments)
     if arguments.state and arguments.expect:
         raise BadWords("--expect wants the whole trace, and a state has no rows of what was before it")
     state = files.read_bytes(arguments.state) if arguments.state else None
@@ -352,14 +359,7 @@ def configure(parser: argparse.ArgumentParser) -> None:
         "--until", type=cli.positive, metavar="CYCLE", help="where each run ends: the deadline of all that is checked"
     )
     parser.add_argument("--state", metavar="STATE", help="go on from this state of the scenario")
-    parser.add_argument("--expect", metavar="CASE", help="check each run by this case of `expect`")
-    parser.add_argument("--check", metavar="FILE", help="check each run by the function check(run) of this Python file")
-    parser.add_argument(
-        "--always",
-        action="append",
-        metavar="'NODE CONDITION'",
-        help="check that this holds of a node's variables (-e) in every cycle of each run: '1 queued <= 3'",
-    )
+    cli.add_checks(parser)
     parser.add_argument(
         "--compare",
         choices=[it.value for it in Compare],
