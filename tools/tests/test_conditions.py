@@ -201,3 +201,15 @@ def test_what_changes_behind_a_span_does_not_count():
     assert turned("wide == 0", end=501) == [(0, True)]
     assert turned("wide == 0", end=502) == [(0, True), (502, False)]
     assert turned("count", first=1_000) == [(1_000, False)]
+
+
+@pytest.mark.parametrize("look", [1, 500, 502, 700, 701, 702, 801, 900, 901, 999])
+def test_a_look_within_a_span_has_the_values_of_its_cycle(look):
+    """What a condition looks at changes while it holds, so the values of its last turn are old ones."""
+    watched = Watched(0, read("count < 3 || other"))
+    run = Recorded("", "", "", 1_000)
+    looked = [where for _, _, where in turns(run, [watched], 0, 999, looks=[look]) if where.cycle == look]
+    alone = next(where for _, _, where in turns(run, [watched], look, 999))
+    assert [it.values for it in looked] == [alone.values] and len(set(alone.values)) == 2
+    last = [at for at, where, _ in CHANGED if where in (0x102, 0x103) and at < look]
+    assert (looked[0].moment.cycle if looked[0].moment else None) == (max(last) if last else None)

@@ -113,10 +113,11 @@ class Observer:
     def failures(self) -> Iterator[str]:
         """What is not met, a text each."""
         followers = [Follower(one) for one in self.case.conditions]
-        first = min(it.span.first for it in followers)
+        firsts = [it.span.first for it in followers]
+        first = min(firsts)
         end = min(max(math.inf if it.span.last is None else it.span.last for it in followers), self.scenario.cycles)
         run = Run.of(self.simulator, self.path, self.scenario.cycles)
-        for number, holds, where in turns(run, self.conditions, first, int(end)):
+        for number, holds, where in turns(run, self.conditions, first, int(end), looks=firsts):
             followers[number].turn(holds, where)
             if all(it.decided for it in followers):
                 break

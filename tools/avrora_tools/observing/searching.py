@@ -60,6 +60,7 @@ class Judge:
         for number, one in enumerate(conditions):
             for it in one.condition.quantities:
                 self.using.setdefault((one.node, it.name), []).append(number)
+        self.last: dict[int, Moment] = {}  # the last change of what a condition looks at
 
     def put(self, node: int, quantity: Quantity, held: bytes) -> None:
         self.held[node][quantity.name] = held
@@ -75,11 +76,16 @@ class Judge:
         for moment in moments:
             self.put(moment.node, moment.quantity, moment.held)
             users |= dict.fromkeys(self.using.get((moment.node, moment.quantity.name), ()), moment)
+        self.last |= users
         for number, moment in sorted(users.items()):
             holds = self.judged(self.conditions[number])
             if holds != self.holds[number]:
                 self.holds[number] = holds
                 yield number, holds, moment
+
+    def look(self, cycle: int, number: int) -> tuple[int, bool, Broken]:
+        """What a condition is in a cycle up to which all values are taken."""
+        return number, self.holds[number], self.broken(number, cycle, self.last.get(number))
 
     def broken(self, number: int, cycle: int, moment: Moment | None) -> Broken:
         one = self.conditions[number]
@@ -88,18 +94,22 @@ class Judge:
 
 
 def turns(
-    run: Run, conditions: Sequence[Watched], first: int, end: int, torn: bool = False
+    run: Run, conditions: Sequence[Watched], first: int, end: int, torn: bool = False, looks: Sequence[int] = ()
 ) -> Iterator[tuple[int, bool, Broken]]:
     """Each time that a condition begins or ceases to hold: its number, whether it holds, and when; at the span's first
-    cycle each once."""
+    cycle each once. `looks` has for each condition a cycle in which it is told once more."""
     quantities = quantities_of(conditions)
     values, moments = Observed(run, quantities, torn).followed(first, end)
     judge = Judge(conditions, quantities, values)
     for number, holds in enumerate(judge.holds):
         yield number, holds, judge.broken(number, first, None)
+    waiting = sorted((cycle, number) for number, cycle in enumerate(looks) if first < cycle <= end)
     for cycle, of_cycle in itertools.groupby(moments, key=lambda moment: moment.cycle):
+        while waiting and waiting[0][0] <= cycle:
+            yield judge.look(*waiting.pop(0))
         for number, holds, moment in judge.take(of_cycle):
             yield number, holds, judge.broken(number, cycle + 1, moment)
+    yield from (judge.look(*it) for it in waiting)
 
 
 def breaks(run: Run, conditions: Sequence[Watched], first: int, end: int, torn: bool = False) -> Iterator[Broken]:
