@@ -180,6 +180,7 @@ def test_conditions_that_a_run_meets(folder, stores):
         ("within ..{at}: reaches 0 ticks == 3", "was to hold once at node 0 within 0..{at}, and never did"),
         ("within 2_000..: always 0 ticks < 3", "does not hold at node 0 in cycle 2000: ticks is 3"),
         ("before {later}: always 0 ticks < 3", "does not hold at node 0 in cycle {after}"),
+        ("reaches 0 ticks == 1\nwithin 2_000..: never 0 ticks != 9", "holds at node 0 in cycle 2000: ticks is 3\n"),
     ],
 )
 def test_conditions_that_a_run_breaks_are_told_with_who_wrote(folder, stores, statement, said):
