@@ -291,7 +291,7 @@ class FirstRun(OfARepository):
         for status, line, below in (
             (5, "avrora: a.hex: image refused: NoEnd", "(NoEnd: no line is faulty and none has type 01; docs/FORMATS.md)"),
             (4, "avrora: a.toml: scenario refused: SelfLink", "(SelfLink: a link from a node to itself; docs/FORMATS.md; avrora-tools why FILE says where)"),
-            (8, "avrora: m: moves refused: TooLong, line 2", "(TooLong: a line has more than 65,536 bytes; docs/FORMATS.md)"),
+            (8, "avrora: m: moves refused: TooLong, line 2", "(TooLong: a line has more than 65,536 bytes to arrive; docs/FORMATS.md)"),
             (8, "avrora: m: moves refused: TooLong", "(TooLong: it has more than 4,194,304 bytes; docs/FORMATS.md)"),
             (8, "avrora: p: places refused: NoPlace, line 2", "(NoPlace: at this data address stands no such byte: "),
             # a name of somebody's choice
