@@ -5,6 +5,7 @@ Each check takes the repository and yields a line for whatever is wrong. A check
 document or its list has changed so much that it checks nothing any more.
 """
 import fnmatch
+import functools
 import re
 import tomllib
 
@@ -15,14 +16,29 @@ ARGS, RUNNER, DATA = "crates/command_facts/args", "crates/command_facts/src/main
 
 SPAN = re.compile(r"`([^`\n]+)`")
 FILE = re.compile(r"[\w./-]+\.(?:rt|py|txt|cases|toml|sh|antt)")
-SPECS = re.compile(r"(\w+)/specs/(\w+)")
+SPECS = re.compile(r"(\w+)/specs/(\w+(?:/\w+)*)")
 FUNCTION = re.compile(r"[a-z_][a-z0-9_]*")
 LEADS = re.compile(r"\*all (\w+)\*")
-SOURCE = r"`([\w./]+\.rt|\w+/specs/\w+|[A-Z]\w+)`"
+SOURCE = r"`([\w./]+\.rt|\w+/specs/[\w/]+|[A-Z][\w/]+)`"
 OF = re.compile(r"`(\w+)`((?:, `\w+`)*) of " + SOURCE)
 BEHIND = re.compile(r"`(?:\w+::)*(\w+)` \(`([\w./]+\.rt)`")
 WITHIN = re.compile(SOURCE + r" \((?:[a-z ]+: )?(`\w+`(?:, `\w+`)*)\)")
 CASE_WORD = re.compile(r"`(\w+)(=?)`")
+WILD = re.compile(r"[*?\[]")
+
+# How many files a list may except: where more match that no change touches, the patterns are too wide.
+MOST_OTHERS = 15
+
+
+@functools.lru_cache(maxsize=None)
+def paths_of(glob, paths):
+    return tuple(fnmatch.filter(paths, glob))
+
+
+@functools.lru_cache(maxsize=None)
+def occurs(pattern, text):
+    """Whether a pattern matches in a text; the tests ask it of the same texts over and over."""
+    return re.search(pattern, text, re.M) is not None
 
 
 class Repository:
@@ -41,7 +57,7 @@ class Repository:
 
     def matching(self, globs):
         """The files that one of the globs matches."""
-        return sorted({path for it in globs for path in fnmatch.filter(self.paths, it)})
+        return sorted({path for it in globs for path in paths_of(it, tuple(self.paths))})
 
     def ending(self, end, crates=()):
         """The files that a path, with or without the folders above it, names; of these crates, if there are any."""
@@ -72,11 +88,28 @@ def rows_of(text, head):
 def found_by(repo, where, search):
     """The files that a search finds, and what is wrong with it."""
     wrong = [f"{where}: there is no file {it}" for it in search["among"] if not repo.matching([it])]
-    pattern = re.compile(search["pattern"], re.M)
-    found = {path for path in repo.matching(search["among"]) if pattern.search(repo.text(path))}
+    found = {path for path in repo.matching(search["among"]) if occurs(search["pattern"], repo.text(path))}
     if not found:
         wrong.append(f"{where}: nothing matches {search['pattern']}")
     return found, wrong
+
+
+def names_of(repo, where, places):
+    """What is wrong with the places of a list by themselves."""
+    for path, what in places.items():
+        if path not in repo.paths:
+            yield f"{where}: there is no file {path}"
+            continue
+        yield from (f"{where}: {path} has no `{word}`" for word in SPAN.findall(what) if not repo.has_word(path, word) and word not in path)
+
+
+def others_of(where, rest, others):
+    """What is wrong with the files that match and are no places: `rest` are those that match and stand under no places."""
+    yield from (f"{where}: {it} is a wildcard, and hides each file that comes there" for it in others if WILD.search(it))
+    if len(others) > MOST_OTHERS:
+        yield f"{where}: of {len(others)} files that match nothing is to be changed: its patterns match too much"
+    yield from (f"{where}: {it} matches, and stands under no places and no others" for it in sorted(rest - others.keys()))
+    yield from (f"{where}: {it} is excepted, and nothing there matches" for it in others if it not in rest)
 
 
 def places_of(repo, name, listed):
@@ -86,15 +119,10 @@ def places_of(repo, name, listed):
         more, wrong = found_by(repo, where, search)
         found |= more
         yield from wrong
-    places, others = listed["places"], listed.get("others", {})
-    for path, what in places.items():
-        if path not in repo.paths:
-            yield f"{where}: there is no file {path}"
-            continue
-        yield from (f"{where}: {path} has no `{word}`" for word in SPAN.findall(what) if not repo.has_word(path, word) and word not in path)
-    rest = found - places.keys()
-    yield from (f"{where}: {path} matches, and stands under no places and no others" for path in sorted(rest) if not any(fnmatch.fnmatch(path, it) for it in others))
-    yield from (f"{where}: {it} is excepted, and nothing there matches" for it in others if not fnmatch.filter(rest, it))
+    places = listed["places"]
+    yield from names_of(repo, where, places)
+    yield from (f"{where}: no search finds {it}" for it in places if it in repo.paths and it not in found)
+    yield from others_of(where, found - places.keys(), listed.get("others", {}))
 
 
 def places(repo):
@@ -159,7 +187,7 @@ def within(repo):
             count += 1
             if not any(repo.has_word(path, word) for path in paths):
                 yield f"{ARCHITECTURE}: {file} has no {word}"
-    if count < 20:
+    if count < 30:
         yield f"{ARCHITECTURE}: it names only {count} functions by their files"
 
 
@@ -267,7 +295,8 @@ def idle_files(repo):
     yield from (f"{path}: no case names it" for path in files if not {path.rsplit("/")[-1], path.rsplit("/")[-1].split(".")[0]} & named)
 
 
-CHECKS = (places, change_lists, kinds, crate_map, idle_files, lemmas.indexes)
+# The searches come last, as they take longest.
+CHECKS = (change_lists, kinds, crate_map, idle_files, lemmas.indexes, places)
 
 
 def wrong_maps(top, paths):
