@@ -25,6 +25,7 @@ import sys
 import tempfile
 from pathlib import Path
 
+import believed
 import helps
 import lemmas
 import sentences
@@ -341,6 +342,7 @@ def main():
     texts = documents()
     wrong = [it for path, text in texts.items() for check in (sizes, sentences.wrong, links, names, counts) for it in check(path, text)]
     wrong += [it for path, text in texts.items() for it in trials.wrong(TOP, path, text)]
+    wrong += [it for path, text in texts.items() for it in believed.wrong(TOP, path, text)]
     wrong += crates(texts)
     wrong += wrong_maps(TOP, tracked())
     wrong += helps.wrong(TOP)
