@@ -18,6 +18,7 @@ outside the stored cases, with fields, model and ghosts. All that an unclear nam
 Exit status: 0 all is clear, 1 something is unclear, 2 bad words.
 """
 import argparse
+import functools
 import re
 import sys
 from collections import Counter
@@ -122,12 +123,16 @@ def said(found: Believed) -> str:
     return f"{len(found.call.lines()):,} lines for the whole call and {len(found.headline.lines()):,} for the headline"
 
 
+@functools.cache
+def right_for(top: Path) -> str:
+    return said(believed(Repository(top)))
+
+
 def wrong(top: Path, path: str, text: str) -> Iterator[str]:
     """What a document says of these counts that is not so."""
     if path != DOCUMENT:
         return
-    found = SAID.search(text)
-    right = said(believed(Repository(top)))
+    found, right = SAID.search(text), right_for(top)
     if found is None:
         yield f"{path}: it does not say that there are {right}"
     elif found[0] != right:

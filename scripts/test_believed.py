@@ -41,6 +41,8 @@ class Uses(unittest.TestCase):
             "f = let a = g b in h a": "g b h",
             "f = let (a, b) = g in h a b": "g h",
             "f = (λ a. b) a": "a b",
+            "f = (λ (y : A). b) y": "A b y",
+            "f : P y → (y : A) → Q y": "f P y A Q",
             "f = (let a = b in c) a": "a b c",
             "f = do\n  a ← g b\n  h a": "g b h ◌>>=◌",
             "f x = elim (g x) [ Some y ↦ h y | None ↦ y ]": "g Some h None y",

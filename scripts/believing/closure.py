@@ -146,7 +146,6 @@ class Repository:
                 return True
         return False
 
-
     @functools.cache
     def uses(self, file: File, part: Part, hidden: frozenset[str]) -> frozenset[antt.Use]:
         """The names of antt that a part uses, where some are hidden."""
@@ -203,9 +202,12 @@ class Search:
         if use.module:
             self.follow_imports(it, use.name, [Import(file.modules[use.module], use.name)], [])
             return
-        for name in file.operators.get(use.name, [use.name]):
+        operators = file.operators.get(use.name, [])
+        for name in operators + [use.name]:
             own = [one for one in file.definitions if one.offers(name)] if file.path.endswith(".antt") else []
-            self.follow_imports(it, name, file.imports.get(name, []), own)
+            imports = file.imports.get(name, [])
+            if own or imports or not operators:
+                self.follow_imports(it, name, imports, own)
 
     def follow_imports(self, it: Definition, name: str, imports: list[Import], own: list[Definition]) -> None:
         """Adds all that a name can stand for, and tells where that is not one thing."""
