@@ -1,8 +1,8 @@
 #!/usr/bin/env python3
 """Checks what can rot in the documents: sizes, lengths of sentences, links, names in backquotes, maps of the code and of the stored
-cases, and command lines with what they print.
+cases, the count of lines that have to be believed, and command lines with what they print.
 
-    scripts/check_docs.py                  sizes, sentences, links, names and maps; it needs nothing but the repository
+    scripts/check_docs.py                  all but the commands; it needs nothing but the repository
     scripts/check_docs.py --run [PROGRAM]  also runs the commands, with PROGRAM or the one that `./avrora` built
     scripts/check_docs.py --counts         first puts the counts of stored cases right
     scripts/check_docs.py --index          first writes the indexes: of lemmas, proofs/Lib.antt of each crate, and of scripts, docs/SCRIPTS.md
@@ -25,6 +25,7 @@ import sys
 import tempfile
 from pathlib import Path
 
+import believed
 import helps
 import lemmas
 import sentences
@@ -341,6 +342,7 @@ def main():
     texts = documents()
     wrong = [it for path, text in texts.items() for check in (sizes, sentences.wrong, links, names, counts) for it in check(path, text)]
     wrong += [it for path, text in texts.items() for it in trials.wrong(TOP, path, text)]
+    wrong += [it for path, text in texts.items() for it in believed.wrong(TOP, path, text)]
     wrong += crates(texts)
     wrong += wrong_maps(TOP, tracked())
     wrong += helps.wrong(TOP)

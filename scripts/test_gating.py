@@ -48,6 +48,7 @@ PARTS = (
     "check_docs",
     "test_doc_maps",
     "test_documents",
+    "test_believed",
     "test_gating",
     "test_wrong_bodies",
     "test_first_run",
@@ -339,12 +340,13 @@ class Run(Folder):
             ],
         )
         self.assertRegex(lines[0], "^gate: commit unknown, changed, fake-kit logic 01$")
-        self.assertEqual(lines[-11:], [
+        self.assertEqual(lines[-12:], [
             "one",
             "three",
             "documents: 5 things, 0 wrong",
             "maps: 5 things, 0 wrong",
             "checks: 5 things, 0 wrong",
+            "what is believed: 5 things, 0 wrong",
             "set-up: 5 things, 0 wrong",
             "wrong bodies: 5 things, 0 wrong",
             "first run: 5 things, 0 wrong",

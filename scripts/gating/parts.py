@@ -137,6 +137,7 @@ def all_parts(top: str, python: str, folder: str, side_by_side: bool) -> list[Pa
         Part("documents", [script("check_docs.py")]),
         Part("maps", [script("test_doc_maps.py")]),
         Part("checks", [script("test_documents.py")]),
+        Part("what is believed", [script("test_believed.py")]),
         Part("set-up", [script("test_gating.py")]),
         Part("wrong bodies", [script("test_wrong_bodies.py")]),
         Part("first run", [script("test_first_run.py")]),
