@@ -293,9 +293,9 @@ class FirstRun(OfARepository):
             (4, "avrora: a.toml: scenario refused: SelfLink", "(SelfLink: a link from a node to itself; docs/FORMATS.md; avrora-tools why FILE says where)"),
             (8, "avrora: m: moves refused: TooLong, line 2", "(TooLong: a line has more than 65,536 bytes to arrive; docs/FORMATS.md)"),
             (8, "avrora: m: moves refused: TooLong", "(TooLong: it has more than 4,194,304 bytes; docs/FORMATS.md)"),
-            (8, "avrora: p: places refused: NoPlace, line 2", "(NoPlace: at this data address stands no such byte: "),
+            (8, "avrora: p: places refused: NoPlace, line 2", "(NoPlace: no such byte stands at this data address: "),
             # a name of somebody's choice
-            (8, "avrora: a: image refused: NoEnd: state refused: OutOfBounds, line 3", "(OutOfBounds: the line, another than line 2, "),
+            (8, "avrora: a: image refused: NoEnd: state refused: OutOfBounds, line 3", "(OutOfBounds: the line (other than line 2) "),
             (1, "avrora: write failed", "(a full disk, a closed descriptor, "),
             (3, "avrora: cannot read a", "(it is not there, it is a folder, "),
             (6, "avrora: out of memory", "(the system refused memory; "),
