@@ -23,7 +23,7 @@ class Parser(argparse.ArgumentParser):
         super().__init__(formatter_class=argparse.RawDescriptionHelpFormatter, **options)  # type: ignore[arg-type]
 
     def error(self, message: str) -> NoReturn:
-        raise BadWords(f"{message}; --help tells the words")
+        raise BadWords(f"{message}; --help lists the words")
 
 
 def describe(parser: argparse.ArgumentParser, description: str, example: str) -> None:

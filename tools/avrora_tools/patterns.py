@@ -44,7 +44,7 @@ class Extent(NamedTuple):
         if kind not in TRACED:
             return f"the trace ends in cycle {self.limit}"
         if self.window is None:
-            return f"the trace has no window, and {kind} rows stand in one alone"
+            return f"the trace has no window, and {kind} rows stand only in a window"
         return f"{kind} rows stand in the window alone, which the trace has in cycles {self.window}"
 
 
