@@ -1,6 +1,6 @@
 #!/usr/bin/env python3
 """Writes crates/command_facts/data/rows.txt, aliases.txt and targets.txt: sources in assembly, with the words that avr-as of
-binutils gives for them. Wants avr-as and avr-objcopy (Debian: binutils-avr).
+binutils gives for them. It needs avr-as and avr-objcopy (Debian: binutils-avr).
 
     bench/asm_cases.py
 """

@@ -5,8 +5,8 @@
 
 For each seed it hunts in gather.toml with no span given, and prints which of the five faults each finding has, and when it was
 found. A scenario that still fails where all other faults are mended has that fault; an arrival has the one whose line it names.
---fixed hunts in the firmware without faults instead, where nothing is to be found. It needs avr-gcc (Debian: gcc-avr, avr-libc)
-and python3-pyelftools. Exit status: 0 all is as it is to be, 1 a fault was not found, or something in the fixed firmware.
+--fixed hunts in the firmware without faults instead, where there is nothing to find. It needs avr-gcc (Debian: gcc-avr, avr-libc)
+and python3-pyelftools. Exit status: 0 all is as it should be, 1 a fault was not found, or something in the fixed firmware.
 """
 import argparse
 import contextlib

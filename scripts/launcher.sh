@@ -28,17 +28,17 @@ Usage: $called [-C DIR] COMMAND
   run FILE            run the network of the scenario FILE, and write its trace
   run --plain FILE    the same, on one thread
   monitor FILE        run it up to the end of its window, and write where each node's cycles of the window went
-  monitor FILE FROM TO  the same of the cycles from FROM on, below TO: a span of any length within its run
+  monitor FILE FROM TO  the same for the cycles from FROM on, below TO: a span of any length within its run
   sniff FILE          run it, and write the frames that its nodes send by radio
   check FILE          read the scenario FILE and its images, and write how large the network is
   head FILE N         run it for N epochs of 262144 cycles, and write their part of the trace
-  save FILE N         run it for N epochs, and write the state of the network
-  head, save FILE N STATE   the same from a state on, for N epochs more
-  look FILE CYCLE [STATE]  run it up to CYCLE, from STATE on if there is one, and write the state of the network then
+  save FILE N         run it for N epochs, and write the state of the network at their end
+  head, save FILE N STATE   the same for the N epochs after a state
+  look FILE CYCLE [STATE]  run it up to CYCLE, from reset or from STATE, and write the state of the network then
   resume FILE STATE   run it from a state on, and write the rest of the trace
   watch FILE FROM TO PLACES [STATE [MOVES]]  run it, and write each change of a byte, and each instruction, at PLACES,
-                      from FROM on, below TO; from STATE on, and once for each line of MOVES, if they are there
-  sweep FILE STATE MOVES  do as resume does, once for each line of MOVES, with the input that the line says
+                      in the cycles from FROM on, below TO; with STATE run from it on; with MOVES once for each of its lines
+  sweep FILE STATE MOVES  do what resume does, once for each line of MOVES, with the input that the line gives
   node FILE CYCLES    run the image FILE (Intel HEX) on one node for CYCLES cycles (1 to 10000000, no _), and write its trace
   disasm FILE         list the instructions of the image FILE
   asm FILE            write the program of FILE, a source in assembly, as an image
@@ -126,13 +126,13 @@ find_why() {
     digits=${word//[_,.\']/}
     why=
     case $word in
-        0[xX]*) why='a number is decimal digits alone' ;;
-        [+-]*) why='a number has no sign' ;;
+        0[xX]*) why='write a number in decimal digits alone' ;;
+        [+-]*) why='a number takes no sign' ;;
         *[!0-9]* | '')
-            why='no number'
-            [[ $digits == *[!0-9]* || -z $digits ]] || why="a number is digits alone: $digits"
+            why='this is no number'
+            [[ $digits == *[!0-9]* || -z $digits ]] || why="write a number in digits alone: $digits"
             ;;
-        *) ((${#word} <= ${#most} && 10#$word <= most && 10#$word >= least)) || why="a number from $least to $most, of at most ${#most} digits" ;;
+        *) ((${#word} <= ${#most} && 10#$word <= most && 10#$word >= least)) || why="this must be a number from $least to $most, of at most ${#most} digits" ;;
     esac
 }
 
@@ -140,11 +140,11 @@ find_why() {
 find_why_no_name() {
     why=
     case $2 in
-        '') why='an empty name' ;;
-        -C) why='-C DIR stands before the command' ;;
+        '') why='this file name is empty' ;;
+        -C) why='put -C DIR before the command' ;;
         -*)
-            why="a name begins with no -: ./$2"
-            [[ $1 != run ]] || why="the one option of run is --plain; $why"
+            why="a file name cannot begin with -; write ./$2"
+            [[ $1 != run ]] || why="run has only the option --plain; $why"
             ;;
     esac
 }
@@ -155,7 +155,7 @@ explain_words() {
     [[ -n $command ]] || return 0
     find_forms "$command"
     if ((${#forms[@]} == 0)); then
-        echo "(${command@Q}: no command)" >&2
+        echo "(${command@Q}: there is no such command)" >&2
         return
     fi
     shift

@@ -187,32 +187,32 @@ class FirstRun(OfARepository):
 
     def test_what_is_wrong_with_a_word_is_told(self):
         """A word of a bad command line that is no command, no number as FORMATS.md has it, or no name of a file; or one too many or too few."""
-        most = "a number from 0 to 1099511627776, of at most 13 digits"
+        most = "this must be a number from 0 to 1099511627776, of at most 13 digits"
         for words, told in (
-            ("monitor a 0 7_372_800", "'7_372_800': a number is digits alone: 7372800"),
-            ("monitor a 7,372,800 9", "'7,372,800': a number is digits alone: 7372800"),
-            ("look a 7.372.800", "'7.372.800': a number is digits alone: 7372800"),
-            ("monitor a 0 0x10", "'0x10': a number is decimal digits alone"),
-            ("monitor a +1 5", "'+1': a number has no sign"),
-            ("make -1", "'-1': a number has no sign"),
-            ("node a 1e6", "'1e6': no number"),
-            ("node a _", "'_': no number"),
+            ("monitor a 0 7_372_800", "'7_372_800': write a number in digits alone: 7372800"),
+            ("monitor a 7,372,800 9", "'7,372,800': write a number in digits alone: 7372800"),
+            ("look a 7.372.800", "'7.372.800': write a number in digits alone: 7372800"),
+            ("monitor a 0 0x10", "'0x10': write a number in decimal digits alone"),
+            ("monitor a +1 5", "'+1': a number takes no sign"),
+            ("make -1", "'-1': a number takes no sign"),
+            ("node a 1e6", "'1e6': this is no number"),
+            ("node a _", "'_': this is no number"),
             ("monitor a 9 08", "'08': TO is below FROM, which is 9"),
             ("monitor a 0 1099511627777", f"'1099511627777': {most}"),
             ("look a 00000000000001", f"'00000000000001': {most}"),
             ("look a 10995116277770 b", f"'10995116277770': {most}"),
-            ("head a 0", "'0': a number from 1 to 9999999, of at most 7 digits"),
-            ("save a 10000000 b", "'10000000': a number from 1 to 9999999, of at most 7 digits"),
-            ("node a 10000001", "'10000001': a number from 1 to 10000000, of at most 8 digits"),
-            ("make 65536", "'65536': a number from 0 to 65535, of at most 5 digits"),
-            ("save a 1 -b", "'-b': a name begins with no -: ./-b"),
-            ("check -a", "'-a': a name begins with no -: ./-a"),
-            ("make \x1b[31m", "$'\\E[31m': no number"),
-            ("watch a 0 7_372_800 b", "'7_372_800': a number is digits alone: 7372800"),
+            ("head a 0", "'0': this must be a number from 1 to 9999999, of at most 7 digits"),
+            ("save a 10000000 b", "'10000000': this must be a number from 1 to 9999999, of at most 7 digits"),
+            ("node a 10000001", "'10000001': this must be a number from 1 to 10000000, of at most 8 digits"),
+            ("make 65536", "'65536': this must be a number from 0 to 65535, of at most 5 digits"),
+            ("save a 1 -b", "'-b': a file name cannot begin with -; write ./-b"),
+            ("check -a", "'-a': a file name cannot begin with -; write ./-a"),
+            ("make \x1b[31m", "$'\\E[31m': this is no number"),
+            ("watch a 0 7_372_800 b", "'7_372_800': write a number in digits alone: 7372800"),
             ("watch a 9 8 b c d", "'8': TO is below FROM, which is 9"),
-            ("watch a 8 9 b -c", "'-c': a name begins with no -: ./-c"),
+            ("watch a 8 9 b -c", "'-c': a file name cannot begin with -; write ./-c"),
             ("watch a 8 9 b c d", ""),
-            ("watch a 8 9 -b c d", "'-b': a name begins with no -: ./-b"),
+            ("watch a 8 9 -b c d", "'-b': a file name cannot begin with -; write ./-b"),
             ("watch a 8 9 b c d e", "'e': a word too many for watch"),
             ("monitor a 08 9", ""),
             ("monitor a 0 1099511627776", ""),
@@ -222,14 +222,14 @@ class FirstRun(OfARepository):
             ("run --plain a", ""),
             ("resume a b", ""),
             ("monitor a", ""),
-            ("rum a", "'rum': no command"),
-            ("--plian", "'--plian': no command"),
+            ("rum a", "'rum': there is no such command"),
+            ("--plian", "'--plian': there is no such command"),
             ("run", "run: FILE is missing"),
             ("run --plain", "run: FILE is missing"),
-            ("run --plian a", "'--plian': the one option of run is --plain; a name begins with no -: ./--plian"),
+            ("run --plian a", "'--plian': run has only the option --plain; a file name cannot begin with -; write ./--plian"),
             ("run --plain a b", "'b': a word too many for run"),
-            ("run -C", "'-C': -C DIR stands before the command"),
-            ("check -C a", "'-C': -C DIR stands before the command"),
+            ("run -C", "'-C': put -C DIR before the command"),
+            ("check -C a", "'-C': put -C DIR before the command"),
             ("resume a", "resume: STATE is missing"),
             ("sweep a b", "sweep: MOVES is missing"),
             ("watch a 8 9", "watch: PLACES is missing"),
@@ -252,7 +252,7 @@ class FirstRun(OfARepository):
         run = ["bash", "-c", script, "bash", TOP / "scripts/launcher.sh", "node", "a", "1_000"]
         said = subprocess.run(run, env={**self.environment, "FAKE": str(fake)}, stdin=subprocess.DEVNULL, capture_output=True, text=True, check=False)
         lines = said.stderr.splitlines()
-        self.assertEqual((lines[0], lines[-1]), ("avrora: bad command line", "('1_000': a number is digits alone: 1000)"))
+        self.assertEqual((lines[0], lines[-1]), ("avrora: bad command line", "('1_000': write a number in digits alone: 1000)"))
         self.assertTrue(lines[1].startswith("Usage: "))
         self.assertEqual(said.returncode, 2)
 

@@ -118,7 +118,7 @@ fi
 folder=$(absolute "$1")
 out=${2:-build}
 if has_link "$out"; then
-    end 2 "$out: a link, and what is written follows none"
+    end 2 "$out: it is a link, and the tool writes through none"
 fi
 out=$(absolute "$out")
 mkdir -p -- "$out"

@@ -133,7 +133,7 @@ def table_of(text: str, name: str) -> Table:
     hz = current(document, "hz", name) if "hz" in document else float(CLOCK)
     battery = current(document, "battery", name) if "battery" in document else None
     if hz == 0:
-        raise BadInput(f"{name}: hz is above 0")
+        raise BadInput(f"{name}: hz must be above 0")
     return Table(common, by_node, hz, battery)
 
 
@@ -148,7 +148,7 @@ def current(table: Mapping[str, object], key: str, name: str) -> float:
     value = table.get(key)
     if isinstance(value, bool) or not isinstance(value, (int, float)) or not 0 <= value < 1e12:
         raise BadInput(
-            f"{name}: {key} is to be a number of at least 0" + ("" if key in table else ", and is not there")
+            f"{name}: {key} must be a number of at least 0" + ("" if key in table else ", and is missing")
         )
     return float(value)
 

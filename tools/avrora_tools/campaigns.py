@@ -254,7 +254,7 @@ def groups_of(place: str, table: Table, folder: str, files: Files, checks: list[
     campaign_keys.check(place, table, campaign_keys.RUN)
     found = [source for source in SOURCES if source in table]
     if len(found) > 1:
-        raise BadInput(f"{place}: a run has a {found[0]} or a {found[1]}, and not both")
+        raise BadInput(f"{place}: a run has a {found[0]} or a {found[1]}, not both")
     name = table.get("name", "")
     read = [case_of(place, path, folder, files) for path in texts(table.get("expect", ()))]
     axes = [axis_of(place, key, values) for key, values in flat(table.get("vary", {})).items()]
@@ -284,7 +284,7 @@ def groups_of(place: str, table: Table, folder: str, files: Files, checks: list[
             group.moved = None
         yield group
     elif not read:
-        raise BadInput(f"{place}: a run has a scenario, a network, draw, or cases whose sources are run")
+        raise BadInput(f"{place}: a run needs a scenario, a network, draw, or cases whose sources are run")
     else:
         for case in read:
             case_name = f"{name} {stem(case.read.path)}".strip()

@@ -153,7 +153,7 @@ def read_case(path: str) -> Case:
         except (ValueError, SyntaxError, argparse.ArgumentTypeError, RecursionError, MemoryError) as fault:
             raise BadInput(f"{name}, line {number}: {files.printable(str(fault))}") from None
     if not statements:
-        raise BadInput(f"{name}: a case without an expectation")
+        raise BadInput(f"{name}: the case has no expectation")
     for statement in statements:
         refuse_unseen(name, statement, only or Only())
     refuse_between(name, statements)
@@ -169,19 +169,19 @@ def refuse_unseen(name: str, statement: Statement, only: Only) -> None:
     pattern = statement.pattern
     if only.nodes is not None and (pattern.named - only.nodes or not pattern.nodes & only.nodes):
         node = min(pattern.named - only.nodes or pattern.nodes)
-        raise BadInput(f"{name}, line {statement.line}: node {node} is none of those of `only`")
+        raise BadInput(f"{name}, line {statement.line}: node {node} is not among those of `only`")
     if only.kinds is not None and (pattern.named_kinds - only.kinds or not pattern.kinds & only.kinds):
         kinds = sorted(pattern.named_kinds - only.kinds or pattern.kinds)
-        raise BadInput(f"{name}, line {statement.line}: rows {', '.join(kinds)} are none of those of `only`")
+        raise BadInput(f"{name}, line {statement.line}: rows {', '.join(kinds)} are not among those of `only`")
 
 
 def refuse_unwatched(name: str, statements: list[Statement], source: tuple[str, ...] | None, elfs: list[str]) -> None:
     """Raises BadInput where a condition is stated of what is not run here, and where a program is named for none."""
     stated = [statement for statement in statements if isinstance(statement, Condition)]
     if stated and (source is None or source[0] != "run"):
-        raise BadInput(f"{name}, line {stated[0].line}: a condition is judged over a run: `run SCENARIO` is due above")
+        raise BadInput(f"{name}, line {stated[0].line}: a condition is judged over a run: write `run SCENARIO` above it")
     if elfs and not stated:
-        raise BadInput(f"{name}: `elf` names a program, and no condition is stated of its variables")
+        raise BadInput(f"{name}: `elf` names a program, but no condition uses its variables")
 
 
 def refuse_between(name: str, statements: list[Statement]) -> None:

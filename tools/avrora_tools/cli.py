@@ -23,7 +23,7 @@ class Parser(argparse.ArgumentParser):
         super().__init__(formatter_class=argparse.RawDescriptionHelpFormatter, **options)  # type: ignore[arg-type]
 
     def error(self, message: str) -> NoReturn:
-        raise BadWords(f"{message}; --help tells the words")
+        raise BadWords(f"{message}; --help lists the words")
 
 
 def describe(parser: argparse.ArgumentParser, description: str, example: str) -> None:
@@ -87,9 +87,9 @@ def add_checks(parser: argparse.ArgumentParser) -> None:
 def one_check(arguments: argparse.Namespace) -> None:
     """Refuses two of the checks of `add_checks`, and --always on a cluster."""
     if len([it for it in (arguments.expect, arguments.check, arguments.always) if it]) > 1:
-        raise BadWords("one of --expect, --check and --always")
+        raise BadWords("only one of --expect, --check and --always can be given")
     if arguments.always and arguments.scheduler:
-        raise BadWords("--always is of runs of this machine")
+        raise BadWords("--always works only with runs on this machine")
 
 
 def check_words(arguments: argparse.Namespace) -> list[str]:

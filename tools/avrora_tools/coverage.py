@@ -21,7 +21,7 @@ def shard_of(reading: Reading) -> Shard:
     """The part of a campaign that a file has. Raises BadInput where it does not say."""
     match = re.fullmatch("([0-9]{1,6})/([0-9]{1,6})", reading.about.get("shard", ""))
     if not match or not 1 <= int(match[1]) <= int(match[2]):
-        raise BadInput(f"{files.shown(reading.path)}: it does not say of which part of a campaign it is")
+        raise BadInput(f"{files.shown(reading.path)}: it does not say which part of a campaign it is")
     return Shard(int(match[1]), int(match[2]))
 
 
@@ -47,7 +47,7 @@ def covered(readings: Sequence[Reading], is_asked: bool) -> Coverage:
         if len(readings) > 1:
             lost = next(reading for reading in readings if not reading.about)
             path = files.shown(lost.path)
-            raise BadInput(f"{path}: what it says of itself is not believed, so it is told with no other file")
+            raise BadInput(f"{path}: it is not trusted, so it is told with no other file")
         return found
     parts: dict[int, Reading] = {}
     for reading in known:

@@ -123,7 +123,7 @@ class DrawnGroup(Group):
     def __init__(self, place: str, name: str, axes: Sequence[Axis], check: int, code: Code) -> None:
         super().__init__(place, name, axes, check)
         if [axis.key for axis in axes] != [NUMBER]:
-            raise BadInput(f"{place}: of what is drawn vary has {NUMBER}, and nothing else")
+            raise BadInput(f"{place}: a drawn run can vary only {NUMBER}")
         self.code = code
         self.made = functools.lru_cache(DRAWN_KEPT)(self.make)
 

@@ -566,7 +566,7 @@ def refuse_impossible(case: Case, extent: Extent) -> None:
     name = files.shown(case.path)
     for node in sorted(case.nodes or ()):
         if node >= extent.nodes:
-            raise BadInput(f"{name}: `only` names node {node}, and the trace has {extent.nodes} nodes")
+            raise BadInput(f"{name}: `only` names node {node}, but the trace has {extent.nodes} nodes")
     for kind in sorted(case.kinds or ()):
         if kind in TRACED and extent.window is None:
             raise BadInput(f"{name}: `only` names {kind}: {extent.why_not(kind)}")

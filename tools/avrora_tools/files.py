@@ -87,7 +87,7 @@ def untold(path: str, folder: str) -> Iterator[None]:
         if not place or is_below(path, folder):
             raise
         where = f"it lies outside of {shown(folder)}, or has another name, so none of its text is told"
-        raise BadInput(f"{place[0]}: not what it is to be; {where}") from None
+        raise BadInput(f"{place[0]}: not what it should be; {where}") from None
 
 
 def refuse_endless(name: str) -> None:

@@ -93,7 +93,7 @@ class Samples:
         if (status, byte, age) != (event.status, event.byte, event.age):
             self.refuse_rest(trace, cycle)
             senders = ", ".join(map(shown, on_air)) or "nothing"
-            self.fault(cycle, node, event, f"on the air is {senders}, so {status} {byte:02X} {age} is to be heard")
+            self.fault(cycle, node, event, f"on the air is {senders}, so {status} {byte:02X} {age} should be heard")
         return on_air
 
     def refuse_rest(self, trace: traces.Trace, cycle: int) -> None:

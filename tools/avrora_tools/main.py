@@ -60,7 +60,7 @@ def run(words: Sequence[str]) -> int:
     """Runs a subcommand on its words; returns its status, or raises what ended it."""
     Speaker.name = PACKAGE
     if not words:
-        raise BadWords("a tool is to be named; --help tells all of them")
+        raise BadWords("no tool is named; --help lists them all")
     name, *rest = words
     if name in ("--help", "-h", "help"):
         print(usage())
@@ -69,7 +69,7 @@ def run(words: Sequence[str]) -> int:
         print(f"avrora-tools {avrora_tools.__version__}")
         return Status.GOOD
     if name not in names():
-        raise BadWords(f"no tool is called {printable(name)}; --help tells all of them")
+        raise BadWords(f"no tool is called {printable(name)}; --help lists them all")
     Speaker.name = f"{PACKAGE} {name}"
     module = command(name)
     parser = Parser(prog=Speaker.name)

@@ -44,7 +44,7 @@ class Extent(NamedTuple):
         if kind not in TRACED:
             return f"the trace ends in cycle {self.limit}"
         if self.window is None:
-            return f"the trace has no window, and {kind} rows stand in one alone"
+            return f"the trace has no window, and {kind} rows stand only in a window"
         return f"{kind} rows stand in the window alone, which the trace has in cycles {self.window}"
 
 
@@ -112,7 +112,7 @@ class Pattern:
             words = words[:-1]
         elif len(words) < 3:
             raise ValueError(
-                f"`{text}` is no row: a cycle, a node and a kind, or * in place of each; a last * is any rest"
+                f"`{text}` is no row: a cycle, a node and a kind, or * instead of each; a last * is any rest"
             )
         cycle, node, kind, *rest = (words + [ANY] * 3)[:3] + words[3:]
         self.is_relative = cycle[0] == "+"

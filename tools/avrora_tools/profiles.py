@@ -273,7 +273,7 @@ class MonitorReader:
 
     def finish(self, lines: int) -> None:
         if lines == 0:
-            raise BadInput(f"{self.name}: nothing of a monitor")
+            raise BadInput(f"{self.name}: it has no line of a monitor")
         count = len(self.scenario.images)
         if self.line != LINES.index("charge") or len(self.spent) != count:
             raise BadInput(f"{self.name}: it ends with node {len(self.spent) - 1}, and the scenario has {count} nodes")
@@ -284,7 +284,7 @@ class MonitorReader:
                 raise BadInput(
                     f"{self.name}: the lines of node {node} do not add up to the {cycles:,} cycles of the window, "
                     "but to "
-                    f"{spent.total():,}: of `avrora monitor FILE FROM TO` --window FROM..TO says the window"
+                    f"{spent.total():,}: if `avrora monitor FILE FROM TO` wrote it, --window FROM..TO says the window"
                 )
             if rest < 0 or rest % SEND_CHARGE:
                 raise BadInput(f"{self.name}: the lines of node {node} do not add up to their charge")

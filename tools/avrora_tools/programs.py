@@ -296,7 +296,7 @@ class Programs:
             if program.flash != flashes[image]:
                 word = first_difference(program.flash, flashes[image]) // 2
                 raise BadInput(
-                    f"{program.name}: another program than the image {files.shown(image)} of node {node}: they differ "
+                    f"{program.name}: not the program of the image {files.shown(image)} of node {node}: they differ "
                     f"from word {word:04X} on (--force takes it all the same)"
                 )
 
@@ -313,9 +313,8 @@ class Programs:
         text = program.instruction_at(event.address)
         if text != event.instruction:
             raise BadInput(
-                f"{program.name}: another program than that of the trace: node {node} executed `{event.instruction}` "
-                "at "
-                f"{event.address:04X}, where it has `{text}` (--force takes it all the same)"
+                f"{program.name}: not the program of the trace: node {node} executed `{event.instruction}` at "
+                f"{event.address:04X}, where the program has `{text}` (--force takes it all the same)"
             )
 
 
@@ -342,8 +341,8 @@ def add_elf(parser: argparse.ArgumentParser) -> None:
         action="append",
         default=[],
         metavar="[NODES=]ELF",
-        help="the program of all nodes, or of NODES such as 0,2-4; with -s of the nodes whose image has its name",
+        help="the ELF file of all nodes, or of NODES such as 0,2-4; with -s, of the nodes whose image has its name",
     )
     parser.add_argument(
-        "--force", action="store_true", help="take a program that does not fit the image or the trace"
+        "--force", action="store_true", help="take an ELF file that does not fit the image or the trace"
     )

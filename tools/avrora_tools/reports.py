@@ -185,7 +185,7 @@ class Report:
             import pyarrow
             import pyarrow.parquet
         except ImportError:
-            raise terminal.missing("pyarrow", "none; it is to be had from elsewhere") from None
+            raise terminal.missing("pyarrow", None) from None
         numbers = dict.fromkeys((*runs.COUNTS, "attempts", "number"), pyarrow.int64())
         numbers |= dict.fromkeys(("seconds", "processor"), pyarrow.float64())
         fields = [(column, numbers.get(column, pyarrow.string())) for column in results.COLUMNS]

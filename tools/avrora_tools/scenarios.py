@@ -239,7 +239,7 @@ class Check:
     def node_number(self, table: dict[str, Any], key: str, name: str, number: int) -> None:
         value = table.get(key)
         if type(value) is int and value not in range(self.count):
-            self.tell("OutOfRange", f"there is no node {value}, as there are {self.count}", name, number, key)
+            self.tell("OutOfRange", f"there is no node {value}: the scenario has {self.count}", name, number, key)
         elif key in table and type(value) is not int:
             self.tell("WrongKind", f"{value!r} is no whole number", name, number, key)
 

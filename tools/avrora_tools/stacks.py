@@ -81,7 +81,7 @@ class Unwinder:
             back = node.data[frame - 1] << 8 | node.data[frame]
             is_handler = function.name in HANDLERS
             if not is_handler and not self.returns_to(back, function.first):
-                return Chain(frames, f"{back:04X}, which is to be where it returns to, stands behind no call of it")
+                return Chain(frames, f"{back:04X}, where it should return to, stands behind no call of it")
             y = byte_at(node, saved.get(Y_LOW), y & 0xFF) | byte_at(node, saved.get(Y_HIGH), y >> 8) << 8
             stack = frame
             frames.append(Frame(back, is_handler))

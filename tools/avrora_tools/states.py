@@ -120,28 +120,28 @@ def node_at(lines: list[str], place: int, k: int, name: str) -> Node:
 
 def rest_of(lines: list[str], place: int, words: str, name: str) -> str:
     if place >= len(lines) or not lines[place].startswith(words + " "):
-        raise BadInput(f"{name}, line {place + 1}: no state: `{words}` is due here")
+        raise BadInput(f"{name}, line {place + 1}: no state: this line must be `{words}`")
     return lines[place][len(words) + 1 :]
 
 
 def numbers(lines: list[str], place: int, words: str, count: int, name: str) -> list[int]:
     parts = rest_of(lines, place, words, name).split(" ")
     if len(parts) != count or not all(NUMBER.fullmatch(part) for part in parts):
-        raise BadInput(f"{name}, line {place + 1}: no state: `{words}` and {count} numbers are due here")
+        raise BadInput(f"{name}, line {place + 1}: no state: this line must be `{words}` and {count} numbers")
     return [int(part) for part in parts]
 
 
 def data(lines: list[str], place: int, words: str, count: int, name: str) -> bytes:
     digits = rest_of(lines, place, words, name)
     if not re.fullmatch(f"([0-9A-F]{{2}}){{{count}}}", digits):
-        raise BadInput(f"{name}, line {place + 1}: no state: `{words}` and {2 * count} digits are due here")
+        raise BadInput(f"{name}, line {place + 1}: no state: this line must be `{words}` and {2 * count} digits")
     return bytes.fromhex(digits)
 
 
 def send_at(lines: list[str], place: int, name: str) -> tuple[int, int, int]:
     match = SENT.fullmatch(lines[place])
     if not match:
-        raise BadInput(f"{name}, line {place + 1}: no state: a `send` or `end` is due here")
+        raise BadInput(f"{name}, line {place + 1}: no state: this line must be a `send` or `end`")
     return int(match[2]), int(match[1]), int(match[3], 16)
 
 

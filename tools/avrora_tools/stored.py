@@ -268,11 +268,11 @@ def reading(path: str, adopts: bool = False, say: Callable[[str], None] = lambda
         try:
             folder = stack.enter_context(Folder.above(path))
         except FileNotFoundError:
-            raise BadInput(f"{files.shown(path)}: no results are there") from None
+            raise BadInput(f"{files.shown(path)}: there are no results") from None
         stack.enter_context(reported(path))
         name = os.path.basename(path)
         if not vet(folder, name):
-            raise BadInput(f"{files.shown(path)}: no results are there")
+            raise BadInput(f"{files.shown(path)}: there are no results")
         private = stack.enter_context(tempfile.TemporaryDirectory(prefix="avrora-report-"))
         copied = f"{private}/{FILE}"
         patiently(lambda: copy(folder, name, copied), path, say)

@@ -29,9 +29,10 @@ def say(text: str) -> None:
 warn = say
 
 
-def missing(module: str, package: str) -> CannotWork:
-    """What to raise where Python's `module` is missing, which Debian has in `package`."""
-    return CannotWork(f"{sys.executable} has no {module}. Debian: apt-get install {package}")
+def missing(module: str, package: str | None) -> CannotWork:
+    """What to raise where Python's `module` is missing, which Debian has in `package`, or has not."""
+    remedy = f"Debian: apt-get install {package}" if package else f"In a virtual environment: pip install {module}"
+    return CannotWork(f"{sys.executable} has no {module}. {remedy}")
 
 
 class Progress:

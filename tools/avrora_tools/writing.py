@@ -118,7 +118,7 @@ class Folder:
     def refuse_link(self, name: str) -> None:
         found = self.status(name)
         if found and stat.S_ISLNK(found.st_mode):
-            raise BadInput(f"{shown(self.path_of(name))}: a link, and what is written follows none")
+            raise BadInput(f"{shown(self.path_of(name))}: it is a link, and the tool writes through none")
 
     def is_file(self, name: str) -> bool:
         """Whether a file is there that has this name alone. Raises BadInput where something else is there."""
@@ -127,7 +127,7 @@ class Folder:
         if found and not stat.S_ISREG(found.st_mode):
             raise BadInput(f"{shown(self.path_of(name))}: no file")
         if found and found.st_nlink > 1:
-            raise BadInput(f"{shown(self.path_of(name))}: a file with another name besides, which may be anybody's")
+            raise BadInput(f"{shown(self.path_of(name))}: the file has a second name, which may be anybody's")
         return found is not None
 
     def names(self) -> list[str]:

@@ -129,7 +129,7 @@ def test_a_link_on_the_way_to_out(place, words):
     os.symlink("home", place / "out")
     os.symlink("home", place / "build")
     status, out, err = check(place, *(word.replace("@", str(place)) for word in words))
-    assert (status, out) == (2, "") and err.endswith(": a link, and what is written follows none\n")
+    assert (status, out) == (2, "") and err.endswith(": it is a link, and the tool writes through none\n")
 
 
 @pytest.mark.parametrize("words", [["out", "made"], ["out/", "made"], ["out/deep", "made"], ["@/out", "made"]])

@@ -144,8 +144,8 @@ def test_the_tool_shows_both_contexts_and_its_status_is_one():
     "words, why",
     [
         (["-n", "1,2"], "neither trace has a row of node 2"),
-        (["-k", "instr"], "neither trace has a window, and instr rows stand in one alone"),
-        (["-k", "enter,instr"], "neither trace has a window, and enter and instr rows stand in one alone"),
+        (["-k", "instr"], "neither trace has a window, and instr rows stand only in a window"),
+        (["-k", "enter,instr"], "neither trace has a window, and enter and instr rows stand only in a window"),
     ],
 )
 def test_what_neither_trace_can_have_is_refused(words, why):

@@ -332,8 +332,8 @@ class Refused(unittest.TestCase):
             ("text 1 matches 'a*'", "matches nothing at all"),
             ("text 1 matches '('", "no regular expression"),
             ("within 5..1: never * * sent *", "5..1 has no number in it"),
-            ("only 0\ncount == 1: * 1 sent *", "node 1 is none of those of `only`"),
-            ("only sent\nnever * * stop *", "rows stop are none of those of `only`"),
+            ("only 0\ncount == 1: * 1 sent *", "node 1 is not among those of `only`"),
+            ("only sent\nnever * * stop *", "rows stop are not among those of `only`"),
             ("only 0\nonly 1", "a second `only`"),
             ("+ 0 sent *", "a + stands before a number of cycles"),
             ("10 0 sent *\nnever + 0 sent *", "a + stands before a number of cycles"),
@@ -341,7 +341,7 @@ class Refused(unittest.TestCase):
             ("text 0 'a'\n0.. 0..63 *", "line 2: each trace has such a row"),
             ("count > 0: *", "each trace has at least 1 such rows, so it cannot fail"),
             ("count != 0: * * *", "so it cannot fail"),
-            ("only sent\nnever * * {sent,stop} *", "rows stop are none of those of `only`"),
+            ("only sent\nnever * * {sent,stop} *", "rows stop are not among those of `only`"),
             ("within 0..50: never 60.. * sent *", "cycles 60.. are not within 0..50"),
             ("within 0..50: count == 0: {10,60} * sent *", "cycles 60..60 are not within 0..50"),
             (
@@ -445,7 +445,7 @@ class Refused(unittest.TestCase):
             ("within 99..: text 0 'a'", "the trace ends in cycle 99, and not within 99.."),
             ("within 0..98: count == 0: * * end *", "the trace ends in cycle 99, and not within 0..98"),
             ("within 0..98: never * * {end,stop} *", "the trace ends in cycle 99, and not within 0..98"),
-            ("never * * instr *", "line 1: the trace has no window, and instr rows stand in one alone"),
+            ("never * * instr *", "line 1: the trace has no window, and instr rows stand only in a window"),
             ("never * * enter *", "the trace has no window, and enter rows"),
             ("count == 0: * * enter *", "the trace has no window"),
             ("count <= 5: * * {sent,instr} *", "the trace has no window, and instr rows"),
@@ -603,7 +603,7 @@ class Command(unittest.TestCase):
             self.assertEqual((status, err), (2, ""))
             self.assertRegex(out, rf"(?m)^not ok 1 - {re.escape(bad)}\n  ---\n  message: \|\n    {re.escape(bad)}, line 1: ")
             self.assertIn(f"\nok 2 - {good} # 260 rows, 1 expectations\n", out)
-            self.assertIn(f"\nnot ok 3 - {none}\n  ---\n  message: |\n    {none}: a case without an expectation\n", out)
+            self.assertIn(f"\nnot ok 3 - {none}\n  ---\n  message: |\n    {none}: the case has no expectation\n", out)
 
     def test_tap(self):
         with scratch("a.expect", "text 4 'relay'\ncount == 25: * * sent *\n") as good, scratch(
@@ -637,7 +637,7 @@ class Command(unittest.TestCase):
         trace = "5 0 sent 41\n30000 0 end 12 asleep\n"
         scenario = 'cycles = 30_000\n{}[[node]]\nimage = "a.hex"\n'
         simulator = f"#!{sys.executable}\nprint({trace!r}, end='')\n"
-        refusal = "the trace has no window, and instr rows stand in one alone"
+        refusal = "the trace has no window, and instr rows stand only in a window"
         for text, case, status, says in (
             ("", "run net.toml\nnever * * instr *", 2, f"line 2: {refusal}"),
             ("window = [7, 7]\n", "run net.toml\nnever * * instr *", 2, refusal),

@@ -270,10 +270,10 @@ def test_genhtml_reads_it():
 
 def test_what_wants_a_program_says_so():
     for form in ("callgrind", "folded", "speedscope", "lcov"):
-        assert "wants the program (-e)" in exported(form, RELAY[0], RELAY[-1], status=2)
+        assert "needs the program (-e)" in exported(form, RELAY[0], RELAY[-1], status=2)
     assert "export pcapng -s packet.toml -o packet.pcapng packet.trace" in exported("--help")  # flood.toml sends no packets
-    assert "wants the scenario (-s)" in exported("pcapng", RELAY[-1], status=2)
-    assert "wants the scenario (-s)" in exported("perfetto", RELAY[-1], status=2)
+    assert "needs the scenario (-s)" in exported("pcapng", RELAY[-1], status=2)
+    assert "needs the scenario (-s)" in exported("perfetto", RELAY[-1], status=2)
 
 
 @pyelftools

@@ -123,7 +123,7 @@ def test_an_inferior_may_be_left(two):
 def test_an_elf_of_another_program_is_refused(folder):
     words = [*TOOL, "gdb", "--avrora", PROGRAM, "-e", "0=every_tick.elf", "two.toml"]
     done = subprocess.run(words, cwd=folder, stdin=subprocess.DEVNULL, capture_output=True, text=True, check=False)
-    assert done.returncode == 2 and "another program than the image total.hex" in done.stderr
+    assert done.returncode == 2 and "not the program of the image total.hex" in done.stderr
 
 
 # ---- steps over writes, sleep and interrupts

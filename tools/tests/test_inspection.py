@@ -366,7 +366,7 @@ def test_a_program_that_is_not_that_of_the_state_is_refused_or_warned_of(tmp_pat
     other = compiled(tmp_path / "other.c", tmp_path, "-Os")
     status, out, err = run_tool("inspect", "-e", str(other), state)
     assert (status, out) == (2, "") and re.search(
-        r"another program than that of node 0 in .*, where it has no instruction", err
+        r"not the program of node 0 in .*, where the program has no instruction", err
     )
 
 

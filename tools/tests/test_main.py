@@ -131,10 +131,10 @@ class Command(unittest.TestCase):
     def test_bad_words(self):
         run_tool("console", "--nope")  # after which a call without a tool has the package's name again
         for words, said in (
-            ([], "avrora-tools: a tool is to be named; --help tells all of them\n"),
-            (["nothing"], "avrora-tools: no tool is called nothing; --help tells all of them\n"),
-            (["../main"], "avrora-tools: no tool is called ../main; --help tells all of them\n"),
-            (["console", "--nope"], "avrora-tools console: unrecognized arguments: --nope; --help tells the words\n"),
+            ([], "avrora-tools: no tool is named; --help lists them all\n"),
+            (["nothing"], "avrora-tools: no tool is called nothing; --help lists them all\n"),
+            (["../main"], "avrora-tools: no tool is called ../main; --help lists them all\n"),
+            (["console", "--nope"], "avrora-tools console: unrecognized arguments: --nope; --help lists the words\n"),
         ):
             self.assertEqual(run_tool(*words), (2, "", said))
 
@@ -213,7 +213,7 @@ class WholeFiles(unittest.TestCase):
             link, pipe = f"{folder}/link", f"{folder}/pipe"
             os.symlink("target", link)
             status, _, err = run_tool("timeline", "-o", link, f"{DATA}/relay.trace")
-            self.assertEqual((status, err), (2, f"avrora-tools timeline: {link}: a link, and what is written follows none\n"))
+            self.assertEqual((status, err), (2, f"avrora-tools timeline: {link}: it is a link, and the tool writes through none\n"))
             with open(path, encoding="utf-8") as file:
                 self.assertEqual(file.read(), "before")
             os.mkfifo(pipe)

@@ -112,7 +112,7 @@ class AnotherProgram(unittest.TestCase):
             folder = os.path.dirname(path)
             shutil.copy(f"{DATA}/relay.toml", folder)
             trace = f"{DATA}/relay.trace"
-            said = "another program than the image relay.hex of node 0: they differ from word 0000 on (--force"
+            said = "not the program of the image relay.hex of node 0: they differ from word 0000 on (--force"
             self.each_says(2, said, f"{folder}/relay.toml", trace)
             self.each_says(0, "", f"{folder}/relay.toml", trace, "--force")
             os.unlink(path)
@@ -124,7 +124,7 @@ class AnotherProgram(unittest.TestCase):
         row = next(line for line in whole.splitlines() if " instr " in line)
         cycle, node, _, address, _ = row.split(" ", 4)
         with scratch("other.trace", whole.replace(row, f"{cycle} {node} instr {address} nop")) as trace:
-            said = f"another program than that of the trace: node {node} executed `nop` at {address}, where it has `"
+            said = f"not the program of the trace: node {node} executed `nop` at {address}, where the program has `"
             self.each_says(2, said, f"{DATA}/relay.toml", trace)
             status, _, err = run_tool("annotate", "-e", ELF, trace)
             self.assertEqual((status, said in err), (2, True))

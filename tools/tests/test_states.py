@@ -162,7 +162,7 @@ class Refused(unittest.TestCase):
                 self.says(state(*lines), f"standard input, line {line}: no state: {due} due here")
 
     def test_no_such_node(self):
-        self.says(state(BUSY), "standard input: there is no node 1, as there are 1", "-n", "0-1")
+        self.says(state(BUSY), "standard input: there is no node 1: the state has 1", "-n", "0-1")
 
     def test_no_range(self):
         for text in ("100", "1100-1101", "13F-100", "100-1100"):

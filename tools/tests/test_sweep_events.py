@@ -123,7 +123,7 @@ def test_a_byte_alone_beside_one_that_is_not():
     assert scenario.begins == 2 * EPOCH
     assert script(scenario, (560_001, None), node=0) == {"node": 0, "at": 560_001, "every": 30_000, "hex": "02"}
     with pytest.raises(
-        BadWords, match="^two bytes of one node cannot both move: one of a node does, with those behind it or alone$"
+        BadWords, match="^two bytes of one node cannot both move: move one, with those behind it or alone$"
     ):
         moved_scenario(DOCUMENT, [byte(1, 0, 600_000, 600_009), alone(1, 1, 610_000, 610_009)], None)
 

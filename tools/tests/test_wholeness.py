@@ -127,7 +127,7 @@ def test_links_tells_that_a_trace_may_be_that_of_resume():
     quiet = [line for line in lines[first:] if line.split()[2] in ("serial", "end") or " heard 0 " in line]
     with scratch("t.trace", "".join(quiet)) as trace:
         _, _, err = run_tool("links", f"{DATA}/packet.toml", trace)
-    assert "where it is the trace of `avrora resume`, --state names the state" in err
+    assert "if `avrora resume` wrote it, name the state (--state)" in err
 
 
 class Stored(unittest.TestCase):

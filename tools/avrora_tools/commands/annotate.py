@@ -8,8 +8,9 @@ from avrora_tools.opening import Where, debug_command
 
 SUMMARY = "the function and source line of each address of a trace"
 
-DESCRIPTION = """Writes a trace with the function and the source line of each address behind instruction, entry and stop
-rows, and the names of interrupts; with the scenario (-s), behind a stop the command that opens gdb there. Compile with -gdwarf-2 to have lines. It takes any rows of a trace."""
+DESCRIPTION = """Writes a trace, and behind each instruction, entry and stop row the function and the source line of its
+address. Interrupts have their names. With the scenario (-s) a stop row also has the command that opens gdb there.
+Source lines need a program that was compiled with -gdwarf-2. The tool takes any rows of a trace."""
 
 COLUMN = 44  # where the notes begin
 MOST_NOTES = 65_536  # that are kept

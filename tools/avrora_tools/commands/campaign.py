@@ -28,11 +28,11 @@ FILE is TOML (CAMPAIGNS.md has all of it):
   latency = [50, 100, 200, 400]
   "input.2.at" = { from = 2_000, to = 50_000, step = 2_000 }
 
-What comes of each run is a row of NAME.results/results.sqlite, so a campaign that was cut goes on where it was by the
-same words. A run that came to no answer (its worker died, it took too long) is begun again, `attempts` times in all.
-One that is not passed is made again on another worker before it is told.
-Status 0: all runs are passed; 1: one is failed or refused; 2: FILE is no campaign; 3: none is failed, and one came to
-no answer, or the campaign cannot go on."""
+The outcome of each run is a row of NAME.results/results.sqlite. If a campaign was interrupted, the same words go on
+where it was. A run that came to no answer (its worker died, it took too long) is tried again, `attempts` times in all.
+A run that does not pass is made again on another worker before it is reported.
+Status 0: all runs passed; 1: one failed or was refused; 2: FILE is no campaign; 3: none failed, but one came to no
+answer, or the campaign cannot go on."""
 
 def place_of(campaign: Campaign, shard: Shard, named: str | None) -> str | tuple[str, str]:
     """Where a campaign's results are: a folder that the user named, or one below the campaign's. A shard has its own in
@@ -173,12 +173,12 @@ def is_results(path: str) -> bool:
 def merge(arguments: argparse.Namespace) -> int:
     """Takes the results of the campaign's parts over into its own, and tells what is there."""
     if is_results(arguments.campaign[0]):
-        raise BadWords("--merge wants the campaign first, and then files of results, if any are elsewhere")
+        raise BadWords("--merge takes the campaign first, and then files of results that are elsewhere")
     campaign = campaigns.read(arguments.campaign[0])
     place = path_of(place_of(campaign, Shard(), arguments.results))
     paths = arguments.campaign[1:] or coverage.shards_in(place)
     if not paths:
-        raise BadInput(f"{files.shown(place)}: no results of parts are there")
+        raise BadInput(f"{files.shown(place)}: there are no results of parts")
     with opened_store(campaign, arguments) as store:
         store.arrange(sittings.about_of(campaign, Shard())["signature"], campaign.runs())
         count, told = coverage.merge(campaign, store, paths, arguments.adopt, terminal.say)
@@ -236,11 +236,11 @@ def check_words(arguments: argparse.Namespace) -> None:
             raise BadWords(f"--{word} goes with --report")
     for word in ("dry_run", "merge", "list", "scenario"):
         if getattr(arguments, word) and arguments.html:
-            raise BadWords(f"--html is of results: it goes with no --{word.replace('_', '-')}")
+            raise BadWords(f"--html shows results: it does not go with --{word.replace('_', '-')}")
     for word in ("dry_run", "report", "merge", "list", "scenario"):
         if getattr(arguments, word) and (arguments.stop_after or arguments.counts or arguments.drop or arguments.anew):
             word = word.replace("_", "-")
-            raise BadWords(f"--{word} runs no campaign, so --anew, --drop, --stop-after and --counts are idle")
+            raise BadWords(f"--{word} runs no campaign, so --anew, --drop, --stop-after and --counts do nothing")
 
 
 def write_one(campaign: Campaign, arguments: argparse.Namespace) -> int:
@@ -269,46 +269,46 @@ def configure(parser: argparse.ArgumentParser) -> None:
     cli.describe(parser, DESCRIPTION, "campaign --jobs 2 examples/packet.campaign")
     cli.add_simulator(parser)
     parser.add_argument(
-        "--scheduler", metavar="ADDRESS", help="a scheduler of dask, as tcp://HOST:8786; else this machine"
+        "--scheduler", metavar="ADDRESS", help="run on the workers of a scheduler of dask, as tcp://HOST:8786"
     )
     parser.add_argument(
-        "--jobs", type=cli.positive, metavar="N", help="processes of this machine; else one a processor"
+        "--jobs", type=cli.positive, metavar="N", help="runs at a time on this machine; else one for each processor"
     )
     parser.add_argument(
         "--run-code", action="store_true", help="run the Python files that `draw` and `check` name in FILE"
     )
     parser.add_argument("--results", metavar="FOLDER", help="where results go, whatever FILE says")
-    parser.add_argument("--anew", action="store_true", help="run all again, also where a result is there")
+    parser.add_argument("--anew", action="store_true", help="run all again, also those that have a result")
     parser.add_argument(
         "--shard", type=shard, default=Shard(), metavar="I/N",
         help="each Nth run from the Ith on, with results of its own",
     )
     parser.add_argument(
         "--order", choices=sittings.ORDERS, default="file",
-        help="runs as they stand, or drawn: each part is a sample of all",
+        help="the order of runs: as in FILE, or drawn, so that each part is a sample of all",
     )
     parser.add_argument("--stop-after", type=cli.positive, metavar="N", help="end once N runs are failed or refused")
     parser.add_argument(
-        "--dry-run", action="store_true", help="make 50 drawn runs, keep nothing, and tell what all will cost"
+        "--dry-run", action="store_true", help="make 50 random runs, keep nothing, and tell what all runs will cost"
     )
-    parser.add_argument("--drop", action="store_true", help="drop results of runs that are no more in the campaign")
+    parser.add_argument("--drop", action="store_true", help="drop results of runs that are no longer in the campaign")
     parser.add_argument("--adopt", action="store_true", help="believe results that another user or machine wrote")
     parser.add_argument(
         "--counts", metavar="FILE", help="write the workers' counts to FILE too, for Prometheus' node exporter"
     )
     parser.add_argument(
-        "--merge", action="store_true", help="take the results of parts (--shard) over into those of FILE"
+        "--merge", action="store_true", help="add the results of parts (--shard) to those of FILE"
     )
     parser.add_argument("--list", action="store_true", help="write the names of all runs, and run none")
-    parser.add_argument("--scenario", metavar="NAME", help="write the scenario of one run, and run none")
-    parser.add_argument("--images", metavar="FOLDER", help="with --scenario: write the images that this run alone has")
+    parser.add_argument("--scenario", metavar="NAME", help="write the scenario of the run NAME, and run none")
+    parser.add_argument("--images", metavar="FOLDER", help="with --scenario: write the images that only this run has")
     parser.add_argument(
-        "--report", action="store_true", help="tell what is there, also of a campaign at work, and run none"
+        "--report", action="store_true", help="tell the results so far, also while the campaign is at work, and run none"
     )
-    parser.add_argument("--by", metavar="COLUMN", help="with --report: the highest of a column or parameter first")
+    parser.add_argument("--by", metavar="COLUMN", help="with --report: sort by a column or parameter, the highest first")
     parser.add_argument("--reverse", action="store_true", help="with --by: the lowest first")
-    parser.add_argument("--top", type=cli.positive, metavar="N", help="with --report: the first N alone")
+    parser.add_argument("--top", type=cli.positive, metavar="N", help="with --report: only the first N")
     for word, what in (("json", "lines of JSON"), ("junit", "a JUnit report"), ("parquet", "a table by pyarrow")):
         parser.add_argument(f"--{word}", metavar="FILE", help=f"with --report: {what} instead of the table")
-    parser.add_argument("--html", metavar="FILE", help="a page too: what runs came to, each parameter against each outcome")
+    parser.add_argument("--html", metavar="FILE", help="write a page too: the outcomes of runs by each parameter")
     parser.add_argument("campaign", nargs="+", metavar="FILE", help="a campaign; with --report also files of results")

@@ -16,18 +16,18 @@ from avrora_tools.scenarios import Scenario
 SUMMARY = "who wrote a variable, when, and with which value"
 
 DESCRIPTION = f"""Runs a scenario and tells each change of variables and registers: the cycle of the write, the node,
-the value before and the new one, and the instruction that wrote it, by function and source line, with the handler that
-it ran in. NAME is a variable (static in a function: FUNCTION.NAME), a part of one such as queue.items[3].length, a
+the value before and the new one, the instruction that wrote it, by function and source line, and the handler in which
+it ran. NAME is a variable (static in a function: FUNCTION.NAME), a part of one such as queue.items[3].length, a
 register (PORTB, SP, SREG, r24), a bit of one (PORTB.3, SREG.I), or a pattern of names: 'queue*'. An array or a structure
 stands for all that is in it.
 
-  --last-before CYCLE   the last change of each before that cycle, and no other
+  --last-before CYCLE   only the last change of each variable before that cycle
   --breaks CONDITION    the first cycle in which a condition such as 'queued <= 3 && state != BROKEN' does not hold, the
                         values then, and who wrote the last of them
 
 A value of several bytes is written byte by byte. A new value counts from its last byte on, once no other byte of it
-changes for {SETTLING} cycles; --torn tells each byte at once. Status: 0; 1 with --breaks, where a condition does not
-hold; 2 and 3 as with all tools."""
+changes for {SETTLING} cycles; --torn tells each byte at once. Status 0: all is told; 1: with --breaks, a condition does
+not hold; 2 and 3 as with all tools."""
 
 
 class Teller:
@@ -84,14 +84,14 @@ def span_of(arguments: argparse.Namespace, run: Run) -> tuple[int, int]:
 
 def run(arguments: argparse.Namespace) -> int:
     if bool(arguments.names) == bool(arguments.breaks):
-        raise BadWords("name what is to be watched (-w), or a condition (--breaks)")
+        raise BadWords("name what to watch (-w), or a condition (--breaks)")
     if arguments.last_before is not None and (arguments.breaks or arguments.end is not None):
         raise BadWords("--last-before takes names (-w), and no --until")
     scenario = Scenario.load(arguments.scenario)
     nodes = sorted(arguments.nodes if arguments.nodes is not None else range(len(scenario.images)))
     if nodes[-1] >= len(scenario.images):
         raise BadInput(
-            f"{files.shown(arguments.scenario)}: there is no node {nodes[-1]}, as there are {len(scenario.images)}"
+            f"{files.shown(arguments.scenario)}: there is no node {nodes[-1]}: the scenario has {len(scenario.images)}"
         )
     network = Network(scenario, Programs(arguments.elf, scenario, arguments.force))
     simulator = cli.simulator(arguments.avrora)
@@ -146,11 +146,11 @@ def configure(parser: argparse.ArgumentParser) -> None:
         "--until", dest="end", type=cli.natural, metavar="CYCLE", help="before this cycle; else to the end"
     )
     parser.add_argument(
-        "--last-before", type=cli.natural, metavar="CYCLE", help="the last change of each before this cycle"
+        "--last-before", type=cli.natural, metavar="CYCLE", help="only the last change of each variable before this cycle"
     )
     parser.add_argument("--breaks", action="append", metavar="CONDITION", help="where a condition first does not hold")
-    parser.add_argument("--torn", action="store_true", help="each byte of a value counts at once")
+    parser.add_argument("--torn", action="store_true", help="tell each byte of a value at once")
     parser.add_argument(
-        "--no-writers", action="store_true", help="do not look who wrote, which takes a moment for each change"
+        "--no-writers", action="store_true", help="do not tell who wrote; the search takes a moment for each change"
     )
     parser.add_argument("scenario", metavar="SCENARIO")

@@ -13,12 +13,12 @@ from avrora_tools.traces import Row
 SUMMARY = "what differs between two traces: first rows, and what is later, gone or new"
 
 DESCRIPTION = """Compares two traces node by node. For each node that differs it shows the first row that is not the
-same, with the rows about it: `-` stands before those of the first trace, `+` before those of the second. For the rows
-behind it, it tells by kind how many are the same in other cycles, by how much, and which are gone or new. It compares
-rows of a kind in their order, without their cycles, and samples without their age too. Where two differ, it looks for
-the next equal ones among 64.
+same, with the rows about it: `-` stands before those of the first trace, `+` before those of the second. Of the later rows
+it tells, by kind, how many are the same in other cycles, by how much, and which are gone or new. For this it compares
+the rows of a kind in their order, without their cycles, and samples without their age too. If two differ, it looks
+for the next equal ones among 64.
 
-Status 0: no row differs; 1: one does; 2: bad words, a file that is no trace, or two that can have no such row."""
+Status 0: no row differs; 1: one does; 2: bad words, a file that is no trace, or neither trace can have such rows."""
 
 COLUMN = 44  # where notes on a row begin
 
@@ -60,7 +60,7 @@ def refuse_unseen(arguments: argparse.Namespace, came: set[tuple[int, str]]) -> 
         raise BadInput(f"neither trace has a row of node {missing[0]}")
     if arguments.kinds <= TRACED and not any(kind in TRACED for _, kind in came):
         raise BadInput(
-            f"neither trace has a window, and {' and '.join(sorted(arguments.kinds))} rows stand in one alone"
+            f"neither trace has a window, and {' and '.join(sorted(arguments.kinds))} rows stand only in a window"
         )
 
 
@@ -127,11 +127,11 @@ def configure(parser: argparse.ArgumentParser) -> None:
     cli.describe(parser, DESCRIPTION, "diff -e relay.elf before.trace after.trace")
     cli.add_nodes(parser)
     parser.add_argument(
-        "-k", "--kinds", type=kinds, default=set(events.KINDS), help="these kinds of rows alone, such as serial,sent"
+        "-k", "--kinds", type=kinds, default=set(events.KINDS), help="only these kinds of rows, such as serial,sent"
     )
     parser.add_argument(
-        "--without-cycles", action="store_true", help="rows that only come in other cycles do not differ"
+        "--without-cycles", action="store_true", help="do not count a row as different if only its cycle is"
     )
     programs.add_programs(parser)
     parser.add_argument("first", metavar="A", help="a trace: a file, .gz too, or - for the standard input")
-    parser.add_argument("second", metavar="B", help="another")
+    parser.add_argument("second", metavar="B", help="the trace to compare it with")

@@ -31,14 +31,14 @@ and a TOML file of currents in mA:
   asleep = 3.2
   sending = 12.0     # of the radio, while a byte is on the air
   listening = 7.0    # of the radio, all other time in which it is selected (PB0 an output, and low)
-  off = 0.001        # of the radio, while it is not; 0, where it is absent
-  hz = 7_372_800     # cycles a second; this, where it is absent
-  battery = 2_500    # mA h; then it is told how many days it lasts
+  off = 0.001        # of the radio, while it is not selected; without this line 0
+  hz = 7_372_800     # cycles a second; without this line 7_372_800
+  battery = 2_500    # mA h; with this line the tool tells how many days it lasts
   [node.'1-4']       # other currents of some nodes
   listening = 0.5
 
-`avrora monitor FILE 0 END`, where END are the `cycles` of the scenario in digits alone (no _), writes a report of the
-whole run. If a report is of other cycles than these and than the scenario's window, --window says which.
+`avrora monitor FILE 0 END`, where END is the scenario's `cycles` in digits alone (no _), writes a report of the whole
+run. If a report is neither of the whole run nor of the scenario's window, --window says of which cycles it is.
 examples/currents.toml is a table to begin with. Cycles without an owner (`lead`: the window began within a sleep or an
 instruction) may be awake or asleep, so the tool tells what depends on them as a span. No report tells when a radio was
 selected, so it runs the scenario again and follows the writes to PB0. Where these do not tell, what depends on them is

@@ -20,7 +20,7 @@ SUMMARY = "checks traces against cases: regression tests"
 DESCRIPTION = """Checks traces against cases, and writes TAP 13. A case is a text file (tools/README.md has all of it):
 
   run relay.toml              the trace of `avrora run`; or: node IMAGE CYCLES; or: trace FILE
-  only 0,1 sent serial stop   the nodes and kinds that are looked at; all where it is absent
+  only 0,1 sent serial stop   the nodes and kinds that are looked at; without this line all
   9000..9999 1 sent 72        rows in this order; parts: *, A..B, C+-D, {X,Y}, +A..B for cycles since the row before
   next 2: * 1 heard 1 *       at most 2 rows come before this one; `next` alone: none does
   never * * stop *            no such row between the row above and the one below
@@ -32,28 +32,29 @@ DESCRIPTION = """Checks traces against cases, and writes TAP 13. A case is a tex
   never NODE CONDITION        in no cycle
   reaches NODE CONDITION      in one cycle at least
   before 9000: always 1 ok    the same as within 0..8999
-  golden relay.rows           all rows that are looked at are those of the file; `without cycles` behind it
+  golden relay.rows           all rows that are looked at are those of the file; `golden relay.rows without cycles`:
+                              the same rows, whenever they come
 
-Files are looked for from the case's folder. A trace must be whole, with an end row of each of its nodes.
-Rows that were cut away at its front show only where its window or a sample needs them (tools/README.md). The tool
-refuses what no trace can meet, and what this trace cannot: a node that it does not have, cycles behind its end, cycles
-that the rows about them leave no room for, instructions and entries outside of its window. It tells all that is not
-met. Status 0: all cases are met; 1: one is not; 2: one is no case, or there is no whole trace for it: a file or
-scenario is not there, is refused, or is cut off; 3: the simulator failed or took too long."""
+Files are looked for in the case's folder. A trace must be whole, with an end row of each of its nodes.
+The tool notices rows that were cut away at the front only if the window or a sample needs them (tools/README.md). It
+refuses what no trace can meet, and what this trace cannot meet: a node that it does not have, cycles behind its end,
+cycles for which the rows about them leave no room, instructions and entries outside of its window. It tells all that
+is not met. Status 0: all cases are met; 1: one is not; 2: one is no case, or there is no whole trace for it (a file
+or scenario is not there, is refused, or is cut off); 3: the simulator failed or took too long."""
 
 
 def configure(parser: argparse.ArgumentParser) -> None:
     cli.describe(parser, DESCRIPTION, "expect --junit report.xml tests/*.expect")
     cli.add_simulator(parser)
     parser.add_argument(
-        "--trace", metavar="FILE", help="check this trace (- the standard input), whatever the case names"
+        "--trace", metavar="FILE", help="check this trace (-: the standard input) instead of the one that the case names"
     )
     parser.add_argument("--junit", metavar="FILE", help="write a report in JUnit's XML too (needs python3-junit.xml)")
     parser.add_argument("--html", metavar="FILE", help="write a page too: all cases, and what was not met")
-    parser.add_argument("--save", action="store_true", help="write the golden traces anew")
+    parser.add_argument("--save", action="store_true", help="write the golden files anew")
     parser.add_argument("--jobs", type=cli.positive, default=1, metavar="N", help="cases at once (%(default)s)")
     timeout = "that a case may take: its run, and its check"
-    parser.add_argument("--timeout", type=cli.positive, metavar="SECONDS", help=timeout)
+    parser.add_argument("--timeout", type=cli.positive, metavar="S", help=timeout)
     parser.add_argument("case", nargs="+", metavar="CASE")
 
 

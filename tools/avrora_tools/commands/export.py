@@ -24,7 +24,7 @@ DESCRIPTION = f"""Writes what traces say in the format of another program:
   perfetto    ui.perfetto.dev: functions, interrupts, sleep, radio with its flows, USART0, a process a node
   csv         pandas, R: a line a row
   parquet     the same as columns, where pyarrow can be imported
-callgrind, folded, speedscope, lcov and perfetto's functions are of the window, in which instructions are traced.
+callgrind, folded, speedscope, lcov and perfetto's functions cover the window, in which instructions are traced.
 Their cycles are those of `profile`: sleep is left out, or with --asleep is a function of flame graphs. Times are by a
 clock of {cli.CLOCK:,} cycles a second, or of --hz. It takes a trace with its end rows, also one of `avrora resume` and
 of the tool window, or with --head the beginning of one; csv and parquet take any rows."""
@@ -76,11 +76,11 @@ class Source:
 
     def needs_program(self) -> None:
         if not self.programs.all:
-            raise BadWords(f"{self.arguments.format} wants the program (-e)")
+            raise BadWords(f"{self.arguments.format} needs the program (-e)")
 
     def needs_scenario(self) -> Scenario:
         if self.scenario is None:
-            raise BadWords(f"{self.arguments.format} wants the scenario (-s)")
+            raise BadWords(f"{self.arguments.format} needs the scenario (-s)")
         return self.scenario
 
     def trace(self, form: traces.Form | None = None) -> traces.Trace:

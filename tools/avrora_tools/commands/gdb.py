@@ -19,8 +19,8 @@ SUMMARY = "debugs a run by avr-gdb, forwards and backwards"
 
 DESCRIPTION = """Speaks gdb's remote protocol over the run of a scenario. Each node is a thread of gdb. Breakpoints, steps,
 `finish`, `until`, call chains and variables are gdb's own; so are reverse-continue, reverse-step, reverse-next and
-reverse-finish, since a run is the same each time. `monitor help` in gdb tells what a network adds. Nothing can be
-written: a run is a fact. Typed in a terminal it starts avr-gdb itself. In gdb:
+reverse-finish, since a run is the same each time. `monitor help` in gdb tells what a network adds. gdb cannot
+write anything: the run is fixed. In a terminal the tool starts avr-gdb itself. To call it from gdb:
   (gdb) target remote | avrora-tools gdb -e packet.elf packet.toml
 or with --port, in another terminal, `target remote :4242`. It listens on this machine alone. Nodes with different
 images are inferiors of gdb, each with the symbols of its -e. docs/DEBUGGING.md leads through a hunt."""
@@ -35,8 +35,8 @@ def configure(parser: argparse.ArgumentParser) -> None:
     cli.describe(parser, DESCRIPTION, "gdb --port 4242 --at 300_000 packet.toml")
     cli.add_simulator(parser)
     programs.add_elf(parser)
-    parser.add_argument("--port", type=port, help="listen there, for one gdb after another; else the standard streams")
-    parser.add_argument("--state", metavar="STATE", help="a state in which the run begins, as of `sweep --out`; else reset")
+    parser.add_argument("--port", type=port, help="listen on this port, for one gdb after another; else the standard streams")
+    parser.add_argument("--state", metavar="STATE", help="the state in which the run begins, as `sweep --out` writes one; else reset")
     parser.add_argument("--images", metavar="DIR", help="the folder of the images; else that of the scenario")
     parser.add_argument("--at", type=cli.natural, metavar="CYCLE", help="where gdb stands at first; else the beginning")
     parser.add_argument("--node", type=cli.natural, default=0, metavar="NODE", help="the node that gdb shows at first")

@@ -29,23 +29,24 @@ SUMMARY = "varies a scenario in all ways for some minutes, and tells what breaks
 NAMES = (*kinds.NAMES, ARRIVALS)
 
 DESCRIPTION = """Varies a scenario for some minutes and tells what breaks it, by cause, each with the smallest scenario
-that still fails. In turns, and more of what finds something:
+that still fails. It takes these kinds in turns, and more of a kind that finds something:
   starts     when nodes start: at once, staggered, drawn
-  cuts       each packet of each link lost; a part of it; what is sent again too; an exchange both ways; all links
-             of a node for a while
-  inputs     bytes that arrive earlier, later and nearer to each other; with a check of yours twice or not at all
+  cuts       each packet of each link lost; a part of it; its repetitions too; an exchange both ways; all links of a
+             node for a while
+  inputs     bytes that arrive earlier, later and nearer to each other; with a check of yours also twice or not at all
   latencies  of links
   losses     links lost for good or open late, nodes silent or deaf
   pairs      two of these
-  arrivals   a byte cycle by cycle where main and the handler of USART0 RX use the same things (-e)
+  arrivals   a byte that arrives in each cycle in which main uses what the handler of USART0 RX also uses (-e)
 Without a check of yours each node must write to USART0, by the scenario's end, what it writes by --until in the
 unvaried run: in any order of lines, and nothing twice. It must not stop, nor fall silent if it sends all the time.
 --expect, --check and --always are those of `sweep`; `run.moved` is empty.
 
-The same seed varies the same in the same order; the minutes decide how much of it. FOLDER (SCENARIO's name with .hunt)
-gets a scenario for each cause and what failed, which the next hunt tries first. docs/HUNTING.md leads through one.
+The same seed makes the same variants in the same order; the minutes decide how many of them. FOLDER (SCENARIO's name
+with .hunt) keeps a scenario for each cause, and what failed; the next hunt tries that first. docs/HUNTING.md leads
+through one.
 
-Status 0: nothing fails; 1: something does; 2: the words or the files are bad, or the scenario is wrong unvaried."""
+Status 0: nothing fails; 1: something does; 2: the words or the files are bad, or the unvaried scenario fails."""
 
 MINUTES = 10
 SLACK = 8  # a run goes on by this share behind the deadline, where the scenario ends with it
@@ -54,7 +55,7 @@ SLACK = 8  # a run goes on by this share behind the deadline, where the scenario
 def run(arguments: argparse.Namespace) -> int:
     cli.one_check(arguments)
     if arguments.processor_minutes and arguments.scheduler:
-        raise BadWords("--processor-minutes are those of this machine: --minutes N with --scheduler")
+        raise BadWords("--processor-minutes counts this machine only: with --scheduler give --minutes N")
     document, until = prepared_document(arguments)
     scenario = scenarios.Scenario.load(arguments.scenario)
     known = programs.Programs(arguments.elf, scenario, arguments.force) if arguments.elf else None
@@ -176,21 +177,21 @@ def chosen_of(text: str | None) -> set[str] | None:
 def configure(parser: argparse.ArgumentParser) -> None:
     cli.describe(parser, DESCRIPTION, "hunt gather.toml -e gather.elf --until 2_200_000 --minutes 10")
     parser.add_argument(
-        "-e", "--elf", action="append", default=[], metavar="ELF", help="a program, as ELF or NODES=ELF; repeat it"
+        "-e", "--elf", action="append", default=[], metavar="ELF", help="an ELF file, as ELF or NODES=ELF; repeat it"
     )
     parser.add_argument("--force", action="store_true", help="take an ELF file that is not that of the node's image")
     parser.add_argument(
-        "--until", type=cli.positive, metavar="CYCLE", help="all must come by then; runs go on to the scenario's end"
+        "--until", type=cli.positive, metavar="CYCLE", help="judge runs by what the unvaried run writes before CYCLE; they go on to the scenario's end"
     )
     cli.add_checks(parser)
     cli.add_nodes(parser)
-    parser.add_argument("--minutes", type=cli.positive, default=MINUTES, metavar="N", help="how long (%(default)s)")
+    parser.add_argument("--minutes", type=cli.positive, default=MINUTES, metavar="N", help="for how many minutes (%(default)s)")
     parser.add_argument(
-        "--processor-minutes", type=cli.positive, metavar="N", help="instead, minutes of all processors together"
+        "--processor-minutes", type=cli.positive, metavar="N", help="instead, for how many minutes of all processors together"
     )
-    parser.add_argument("--rounds", type=cli.positive, metavar="N", help="end after N rounds of turns")
-    parser.add_argument("--seed", type=cli.natural, default=1, metavar="N", help="by which it draws (%(default)s)")
-    parser.add_argument("--only", metavar="KINDS", help=f"these kinds alone, of {','.join(NAMES)}")
+    parser.add_argument("--rounds", type=cli.positive, metavar="N", help="end after N rounds over all kinds")
+    parser.add_argument("--seed", type=cli.natural, default=1, metavar="N", help="the seed of what is drawn (%(default)s)")
+    parser.add_argument("--only", metavar="KINDS", help=f"only these kinds, of {','.join(NAMES)}")
     parser.add_argument("--corpus", metavar="FOLDER", help="where scenarios and what failed are kept")
     parser.add_argument(
         "--jobs", type=cli.positive, default=processors(), metavar="N", help="runs at a time (%(default)s)"
@@ -198,7 +199,7 @@ def configure(parser: argparse.ArgumentParser) -> None:
     parser.add_argument(
         "--scheduler",
         metavar="ADDRESS",
-        help="run on the workers of a scheduler of dask, as tcp://HOST:8786; arrivals are swept here",
+        help="run on the workers of a scheduler of dask, as tcp://HOST:8786; arrivals are swept on this machine",
     )
     parser.add_argument(
         "--timeout", type=cli.positive, default=300, metavar="S", help="seconds that a run may take (%(default)s)"

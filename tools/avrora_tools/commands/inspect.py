@@ -17,7 +17,7 @@ on the air. With --at CYCLE it takes a scenario, and shows the state in which it
 state it tells instead what differs, by name: the number of the first state, then that of the second. Addresses of the
 program are word addresses, as in a trace. Status of a comparison: 0 nothing differs, 1 something does.
 
-With -e it also tells which functions have not returned, as far as their frames tell, and how low the stack has been:
+With -e it also tells which functions have not returned, as far as their frames show, and how low the stack has been:
 the lowest byte above the variables that is not 0, as all memory is 0 at reset. With -g variables have their types and
 values: -g 'queue*', or -g '*' for all; one that is static in a function is called FUNCTION.NAME."""
 
@@ -237,9 +237,8 @@ def check_programs(state: State, path: str, nodes: Sequence[int], all_programs: 
         word = state.nodes[k]["PC"]
         if not program.has_instruction(word):
             raise BadInput(
-                f"{program.name}: another program than that of node {k} in {files.shown(path)}, which is at "
-                f"{word:04X}, where "
-                "it has no instruction (--force takes it all the same)"
+                f"{program.name}: not the program of node {k} in {files.shown(path)}: the node is at {word:04X}, where "
+                "the program has no instruction (--force takes it all the same)"
             )
         unsure[program.name] = None
     for name in unsure if not has_scenario else ():
@@ -269,7 +268,7 @@ def run(arguments: argparse.Namespace) -> int:
     count = max(len(state.nodes), len(other.nodes) if other else 0)
     nodes = sorted(arguments.nodes if arguments.nodes is not None else range(count))
     if nodes and nodes[-1] >= count:
-        raise BadInput(f"{files.shown(arguments.state)}: there is no node {nodes[-1]}, as there are {count}")
+        raise BadInput(f"{files.shown(arguments.state)}: there is no node {nodes[-1]}: the state has {count}")
     for one, path in ((state, arguments.state), (other, arguments.other)):
         if one and not arguments.force:
             check_programs(one, path, nodes, all_programs, has_scenario=scenario is not None)
@@ -286,13 +285,13 @@ def configure(parser: argparse.ArgumentParser) -> None:
     cli.describe(parser, DESCRIPTION, "inspect -n 1 -e packet.elf --dump 100-13F packet.state")
     parser.add_argument("-n", "--nodes", type=cli.node_set, metavar="NODES", help="only these nodes, such as 0,2-4")
     parser.add_argument(
-        "--dump", type=span_of, metavar="FIRST-LAST", help="the data space between these addresses too, such as 100-13F"
+        "--dump", type=span_of, metavar="FIRST-LAST", help="show the data space between these addresses too, such as 100-13F"
     )
     parser.add_argument(
-        "-g", "--globals", action="append", default=[], metavar="PATTERN", help="the variables with such names, with -e"
+        "-g", "--globals", action="append", default=[], metavar="PATTERN", help="with -e: show the variables with such names"
     )
-    parser.add_argument("--all", action="store_true", help="of two states all bytes that differ")
-    parser.add_argument("--at", type=cli.natural, metavar="CYCLE", help="STATE is a scenario: its run as CYCLE begins")
+    parser.add_argument("--all", action="store_true", help="with two states: show all bytes that differ")
+    parser.add_argument("--at", type=cli.natural, metavar="CYCLE", help="STATE is a scenario: show its run as CYCLE begins")
     cli.add_simulator(parser)
     add_programs(parser)
     parser.add_argument("state", metavar="STATE", help="a state; with --at a scenario")

@@ -12,15 +12,16 @@ from avrora_tools.wholeness import Lacking
 SUMMARY = "who heard whom, who clashed with whom; checks each sample"
 
 DESCRIPTION = """Tells what became of the bytes on each link of a scenario:
-  sent     by the node at its head
-  closed   while the link was not open
-  clean    heard alone by a sample at least
+  sent     by the node where the link begins
+  closed   sent while the link was not open
+  clean    heard alone by at least one sample
   clashed  heard by samples, but never alone
-  unheard  by no sample
-and what the samples of each node heard. It checks each sample against the sends of the trace, by the rules of
-docs/AIR.md with the scenario's latencies and spans, and that each node sends a byte at a time. The trace must be
-whole, with an end row of each node of the scenario; or with --state that of `avrora resume` from that state, which
-knows what was on the air. Rows that were cut away at its front show only where the window or a sample needs them.
+  unheard  heard by no sample
+It also tells what the samples of each node heard. It checks each sample against the sends of the trace, by the rules
+of docs/AIR.md with the scenario's latencies and spans, and checks that each node sends a byte at a time. The trace
+must be whole, with an end row of each node of the scenario. With --state it is what `avrora resume` wrote from that
+state, which knows what was on the air. The tool notices rows that were cut away at the front only if the window or a
+sample needs them.
 Status 0: all samples are as they should be; 1: one is not; 2: no scenario, no whole trace of
 it, or a trace without any sample to check."""
 
@@ -73,7 +74,7 @@ def run(arguments: argparse.Namespace) -> int:
     scenario = Scenario.load(arguments.scenario)
     state = State.load(arguments.state) if arguments.state else None
     if state and len(state.nodes) != len(scenario.images):
-        raise BadInput(f"{files.shown(arguments.state)}: {len(state.nodes)} nodes, and the scenario has {len(scenario.images)}")
+        raise BadInput(f"{files.shown(arguments.state)}: {len(state.nodes)} nodes, but the scenario has {len(scenario.images)}")
     form = traces.Form.ENDED if state else traces.Form.WHOLE
     # That a node sends too early is told here, and no reason to refuse the trace.
     lacking = None if state else Lacking(scenario.window, looks_at_samples=False)  # samples are looked at below
@@ -88,9 +89,8 @@ def run(arguments: argparse.Namespace) -> int:
         draw_map(arguments, reader)
     if not state and (trace.first_row or 0) >= EPOCH:
         terminal.warn(
-            f"{trace.name}: its first row is of cycle {trace.first_row:,}: where it is the trace of `avrora resume`, "
-            "--state names "
-            "the state, without which what was sent before is not known"
+            f"{trace.name}: its first row is of cycle {trace.first_row:,}: if `avrora resume` wrote it, name the state "
+            "(--state), without which what was sent before is not known"
         )
     total, sends = sum(reader.samples.values()), sum(reader.sends.values())
     if not total and not reader.faults:

@@ -12,9 +12,9 @@ in order; IMAGE*COUNT is one that COUNT nodes have. Links go both ways. Shapes: 
 node arrives at its USART0 as the first byte: at node 0 in cycle --at, at each next one --stagger cycles later. A node
 that learns it before its receiver is enabled loses it and waits for ever. Nodes that learn it in the same cycle run in
 lockstep, so that all that they send clashes. A byte time that is shorter than the firmware's round of sampling loses
-bytes. See docs/FIRMWARE.md, "Three losses that nothing reports". Nodes that do not hear each other, as those about a
-star's middle, clash all the same unless the stagger is longer than a packet of theirs. The tool tells of such a star,
-of nodes that nothing reaches, and of parts that no link joins. The same words write the same text."""
+bytes. See docs/FIRMWARE.md, "Three losses that nothing reports". Nodes that do not hear each other, such as the outer
+nodes of a star, clash all the same unless the stagger is longer than a packet of theirs. The tool warns of such a
+star, of nodes that nothing reaches, and of parts that no link joins. The same words write the same text."""
 
 
 def two_numbers(text: str) -> networks.Pair:
@@ -70,21 +70,21 @@ def run(arguments: argparse.Namespace) -> int:
 
 def configure(parser: argparse.ArgumentParser) -> None:
     cli.describe(parser, DESCRIPTION, "mknet --cycles 500000 --input 0=0102 grid:8 'flood.hex*64' > network.toml")
-    parser.add_argument("--cycles", type=cli.positive, default=networks.CYCLES, help="of the run (%(default)s)")
+    parser.add_argument("--cycles", type=cli.positive, default=networks.CYCLES, help="the cycles of the run (%(default)s)")
     parser.add_argument(
-        "--latency", type=cli.positive, default=networks.LATENCY, help="of all links, in cycles (%(default)s)"
+        "--latency", type=cli.positive, default=networks.LATENCY, help="the latency of all links, in cycles (%(default)s)"
     )
-    parser.add_argument("--link-latency", type=two_numbers, metavar="A..B", help="each link's own, drawn by the seed")
-    parser.add_argument("--byte-time", type=cli.positive, default=networks.BYTE_TIME, help="in cycles (%(default)s)")
+    parser.add_argument("--link-latency", type=two_numbers, metavar="A..B", help="each link's own latency, drawn by the seed")
+    parser.add_argument("--byte-time", type=cli.positive, default=networks.BYTE_TIME, help="the byte time, in cycles (%(default)s)")
     parser.add_argument(
         "--window", type=two_numbers, default=(0, 0), metavar="A..B", help="instructions are traced in these cycles"
     )
-    parser.add_argument("--seed", type=int, default=0, help="for what is drawn (%(default)s)")
+    parser.add_argument("--seed", type=int, default=0, help="the seed of what is drawn (%(default)s)")
     parser.add_argument(
-        "--at", type=cli.natural, default=networks.AT, help="cycle in which node 0 learns its number (%(default)s)"
+        "--at", type=cli.natural, default=networks.AT, help="the cycle in which node 0 learns its number (%(default)s)"
     )
     parser.add_argument(
-        "--stagger", type=cli.natural, default=networks.STAGGER, help="cycles until the next node does (%(default)s)"
+        "--stagger", type=cli.natural, default=networks.STAGGER, help="cycles until the next node learns its number (%(default)s)"
     )
     parser.add_argument("--no-numbers", action="store_true", help="no byte arrives at USART0")
     parser.add_argument(
@@ -104,7 +104,7 @@ def configure(parser: argparse.ArgumentParser) -> None:
         action="append",
         default=[],
         metavar="FROM-TO=A..B,..",
-        help="a link that is open in these cycles alone",
+        help="open this link only in these cycles",
     )
     parser.add_argument("--places", metavar="FILE", help="also write where the nodes lie, for --places of links")
     parser.add_argument("shape", metavar="SHAPE")

@@ -13,10 +13,10 @@ SUMMARY = "cycles by function, line and caller; coverage"
 
 DESCRIPTION = """Tells where the cycles of the window went: reads a trace with its end rows, also one of `avrora resume`
 and of the tool window, or with --head the beginning of one; or what `avrora monitor` writes, with its scenario (-s),
-which tells whether it is whole. A row's cycles are those up to the node's next one. A node is asleep from behind its
-SLEEP until an interrupt wakes it. The window is that of --window or of the scenario (-s), as far as the trace goes.
-Else it goes from the first instruction or entry row to the last, or to the trace's end; so it does if the trace is of
-another window than the scenario's, as the tool window makes it. Charge is in units: 8 for each busy cycle, 1 for each
+which tells whether it is whole. A row's cycles are those up to the node's next row. A node is asleep from the end of
+its SLEEP until an interrupt wakes it. The window is that of --window or of the scenario (-s), as far as the trace
+goes. Without these, or if the trace has another window than the scenario's (as the tool window makes it), it goes
+from the first instruction or entry row to the last, or to the trace's end. Charge is in units: 8 for each busy cycle, 1 for each
 asleep, 512 for each byte sent in the window."""
 
 def print_nodes(spent: Mapping[int, Spent]) -> None:
@@ -77,13 +77,13 @@ def run(arguments: argparse.Namespace) -> int:
     scenario = Scenario.load(arguments.scenario) if arguments.scenario else None
     all_programs = programs.Programs(arguments.elf, scenario, arguments.force)
     if arguments.coverage and not all_programs.all:
-        raise BadWords("--coverage wants the program (-e)")
+        raise BadWords("--coverage needs the program (-e)")
     spent, calls = read(arguments, scenario, all_programs)
     spent = {node: one for node, one in spent.items() if arguments.nodes is None or node in arguments.nodes}
     if not spent:
         raise BadInput("the trace has no row of these nodes")
     if arguments.callers and calls is None:
-        raise BadWords("--callers wants a trace: a monitor tells no calls")
+        raise BadWords("--callers needs a trace: a monitor's report has no calls")
     names = Names(all_programs)
     print_nodes(spent)
     print_flat("all nodes", spent, names.function)

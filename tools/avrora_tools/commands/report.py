@@ -39,30 +39,30 @@ def configure(parser: argparse.ArgumentParser) -> None:
     parser.add_argument("-o", "--out", default="-", metavar="FILE", help="where to write; else the standard output")
     parser.add_argument(
         "-e", "--elf", action="append", default=[], metavar="[NODES=]ELF",
-        help="the program of NODES such as 0,2-4, or of the nodes whose image has its name",
+        help="the ELF file of NODES such as 0,2-4, or of the nodes whose image has its name",
     )  # fmt: skip
-    parser.add_argument("--force", action="store_true", help="take a program that is not that of the image")
+    parser.add_argument("--force", action="store_true", help="take an ELF file that is not that of the node's image")
     parser.add_argument(
-        "--trace", metavar="TRACE", help="what `avrora run` wrote of the scenario, which is then not run for its rows"
+        "--trace", metavar="TRACE", help="take the rows from this trace, which `avrora run` wrote of the scenario"
     )
     parser.add_argument("--currents", metavar="CURRENTS", help="a table of currents, as `energy` takes it")
     parser.add_argument(
-        "--always-listening", action="store_true", help="each radio is selected all the time, as in `energy`"
+        "--always-listening", action="store_true", help="take each radio for selected all the time, as in `energy`"
     )
     parser.add_argument("--expect", action="append", default=[], metavar="CASE", help="check this case too; any number")
     parser.add_argument(
-        "--findings", action="append", default=[], metavar="FILE", help="findings, as `sweep --findings` writes them"
+        "--findings", action="append", default=[], metavar="FILE", help="show these findings, which `sweep --findings` wrote"
     )
-    parser.add_argument("--campaign", metavar="FILE", help="results of a campaign, to tell their statistics")
+    parser.add_argument("--campaign", metavar="FILE", help="show the statistics of the results of this campaign")
     parser.add_argument("--adopt", action="store_true", help="believe results that another user or machine wrote")
     parser.add_argument(
         "--stacks", type=cli.window, metavar="A..B", help="the cycles of the flame graph, at most 20,000"
     )
     cli.add_watch(parser)
-    parser.add_argument("--sources", metavar="FOLDER", help="show sources that lie below it")
-    parser.add_argument("--lcov", metavar="FILE", help="write which lines ran as a tracefile of lcov too (-e)")
+    parser.add_argument("--sources", metavar="FOLDER", help="show sources that lie below this folder")
+    parser.add_argument("--lcov", metavar="FILE", help="with -e: write which lines ran, as a tracefile of lcov")
     parser.add_argument(
-        "--no-sleep", action="store_true", help="do not look when nodes sleep, which takes many short runs"
+        "--no-sleep", action="store_true", help="do not show when nodes sleep; the search takes many short runs"
     )
     parser.add_argument("--hz", type=cli.positive, default=cli.CLOCK, help="cycles a second of the clock (%(default)s)")
     parser.add_argument(
@@ -75,9 +75,9 @@ def configure(parser: argparse.ArgumentParser) -> None:
 def run(arguments: argparse.Namespace) -> int:
     path = arguments.scenario
     if arguments.trace == files.STANDARD_STREAM:
-        raise BadWords("--trace is read more than once, so it is no standard input")
+        raise BadWords("--trace is read more than once, so it cannot be the standard input")
     if arguments.lcov and not arguments.elf:
-        raise BadWords("--lcov wants the program (-e)")
+        raise BadWords("--lcov needs the program (-e)")
     cases = [expectations.read_case(case) for case in arguments.expect]
     searches = [finding_pages.load(name) for name in arguments.findings]
     program = cli.simulator(arguments.avrora)

@@ -23,7 +23,7 @@ TAKES_COMMAND = True
 def configure(parser: argparse.ArgumentParser) -> None:
     cli.describe(parser, DESCRIPTION, "rerun relay.toml relay.hex -- avrora run relay.toml")
     parser.usage = "avrora-tools rerun [OPTIONS] FILE... -- COMMAND [WORD...]"
-    parser.add_argument("--runs", type=cli.positive, metavar="N", help="end behind the Nth run")
+    parser.add_argument("--runs", type=cli.positive, metavar="N", help="end after the Nth run")
     parser.add_argument(
         "--every", type=cli.positive, default=300, metavar="MS", help="milliseconds between two looks (%(default)s)"
     )
@@ -31,14 +31,14 @@ def configure(parser: argparse.ArgumentParser) -> None:
         "--timeout", type=cli.positive, default=600, metavar="S", help="seconds that a run may take (%(default)s)"
     )
     parser.add_argument(
-        "--quiet", action="store_true", help="show differences alone, and not what the first run writes"
+        "--quiet", action="store_true", help="show only differences, not what the first run writes"
     )
-    parser.add_argument("file", nargs="+", metavar="FILE", help="what is watched")
+    parser.add_argument("file", nargs="+", metavar="FILE", help="a file that is watched")
 
 
 def run(arguments: argparse.Namespace) -> int:
     if not arguments.command:
-        raise BadWords("a command is to stand behind --: rerun relay.toml -- avrora run relay.toml")
+        raise BadWords("put a command behind --: rerun relay.toml -- avrora run relay.toml")
     for name in arguments.file:
         if not os.path.exists(name):
             raise BadWords(f"{files.shown(name)}: there is no such file")

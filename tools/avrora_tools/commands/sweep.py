@@ -56,14 +56,14 @@ A..B:
   --latency F-T=A..B     the latency of the link from node F to node T
 Two of them make a grid; A..B/STEP takes each STEP-th value alone.
 
-Cycles in which a byte's arrival makes one and the same execution are one class, and the tool makes one run of each
-class. It runs all classes, unless --quick, --runs, --stop, --per-place or a step says otherwise; then it tells how many
+Cycles in which a byte's arrival leads to the same execution are one class, and the tool makes one run of each class.
+It runs all classes, unless --quick, --runs, --stop, --per-place or a step says otherwise; then it tells how many
 it did not run. --quick is a first look: a clean one proves nothing.
 
 It checks each run at its end, which is the deadline of all that is checked: the scenario's `cycles`, or --until. Unless
 --expect, --check or --always says otherwise, each node must write to USART0 what it writes in the run that is not
-moved. With -e, the program of the node whose byte moves, functions, lines and what handlers share with main have their
-names, and the tool tells where a failing run parts from one that passes.
+moved. With -e (the program of the node whose byte moves) the tool names functions, lines and what handlers share with
+main, and tells where a failing run parts from one that passes.
 
 Status 0: no run fails; 1: one does; 2: the words or the files are bad."""
 
@@ -148,7 +148,7 @@ def prepared(arguments: argparse.Namespace, limit: Limit | None = None) -> Itera
         raise BadWords("--quick goes by what handlers share with main: it needs -e, and a byte that moves")
     cli.one_check(arguments)
     if arguments.state and arguments.expect:
-        raise BadWords("--expect wants the whole trace, and a state has no rows of what was before it")
+        raise BadWords("--expect needs the whole trace: a run from a state has no rows of what was before")
     state = files.read_bytes(arguments.state) if arguments.state else None
     state_cycle = State.of_text(state.decode("ascii", "replace"), arguments.state).cycle if state else None
     scenario = moved_scenario(document, moved, arguments.until, state_cycle)
@@ -172,7 +172,7 @@ def tails_of(
     if not arguments.scheduler:
         return ProcessTails(simulator, scenario, arguments.jobs, state)
     if arguments.alone:
-        raise BadWords("--alone is of runs of this machine")
+        raise BadWords("--alone works only with runs on this machine")
     tails = ClusterTails(simulator, scenario, state)
     try:
         reads_all = arguments.quick or arguments.expect or arguments.check
@@ -199,15 +199,15 @@ def moved_events(arguments: argparse.Namespace) -> tuple[list[Moved], list[int]]
     """What moves, a byte last where there is one; and the place in it of each event of the command line."""
     words = arguments.moved or []
     if not 1 <= len(words) <= 2:
-        raise BadWords("one event moves, or two: --input, --start, --latency")
+        raise BadWords("name one event or two that move: --input, --start, --latency")
     given = [parsed_event(kind, text) for kind, text in words]
     order = sorted(range(len(given)), key=lambda i: isinstance(given[i].event, InputByte))
     if len(given) == 2 and given[0].event == given[1].event:
-        raise BadWords("the two events are one")
+        raise BadWords("the two events are the same")
     if arguments.alone:
         last = given[order[-1]]
         if not isinstance(last.event, InputByte):
-            raise BadWords("--alone is of a byte")
+            raise BadWords("--alone moves a byte")
         given[order[-1]] = replace(last, event=replace(last.event, is_alone=True))
     return [given[i] for i in order], [order.index(i) for i in range(len(given))]
 
@@ -275,7 +275,7 @@ def check_unmoved(
 def journal_of(arguments: argparse.Namespace, tails: ProcessTails, order: list[int]) -> Journal:
     """The file that --resume names, of this sweep alone."""
     if arguments.quick:
-        raise BadWords("--resume goes on with all classes, and --quick runs some: either of them")
+        raise BadWords("--resume goes on with all classes, but --quick runs only some: give one of them")
     scenario = tails.scenario
     nodes: list[dict[str, str]] = scenario.document["node"]
     images = sorted({node["image"] for node in nodes})
@@ -353,7 +353,7 @@ def configure(parser: argparse.ArgumentParser) -> None:
     parser.add_argument(
         "--alone",
         action="store_true",
-        help="the bytes behind the one that moves stay where they are, so it moves between its neighbours",
+        help="move one byte alone, between its neighbours: the bytes behind it stay where they are",
     )
     parser.add_argument(
         "--until", type=cli.positive, metavar="CYCLE", help="where each run ends: the deadline of all that is checked"
@@ -367,13 +367,13 @@ def configure(parser: argparse.ArgumentParser) -> None:
         help="how serial output is compared: byte for byte, or with bytes or lines in any order (%(default)s)",
     )
     parser.add_argument(
-        "--drop", default="", metavar="PATTERN", help="leave what matches out of the serial output first"
+        "--drop", default="", metavar="PATTERN", help="before the comparison, leave out of the serial output what matches"
     )
     cli.add_nodes(parser)
     parser.add_argument(
         "--base", type=cli.natural, action="append", metavar="VALUE", help="compare with the run of this move"
     )
-    parser.add_argument("-e", "--elf", metavar="ELF", help="the program of the node whose byte moves")
+    parser.add_argument("-e", "--elf", metavar="ELF", help="the ELF file of the node whose byte moves")
     parser.add_argument("--force", action="store_true", help="take an ELF file that is not that of the node's image")
     parser.add_argument(
         "--out",
@@ -384,12 +384,12 @@ def configure(parser: argparse.ArgumentParser) -> None:
     parser.add_argument("--html", metavar="FILE", help="write a page too: the findings, and which moves fail")
     parser.add_argument("--findings", metavar="FILE", help="write the findings as JSON too, for `report`")
     parser.add_argument("--all", action="store_true", help="run each move, and not one of each class")
-    parser.add_argument("--quick", action="store_true", help="a first look: not all classes are run")
+    parser.add_argument("--quick", action="store_true", help="a first look, which does not run all classes")
     parser.add_argument(
-        "--grid", type=cli.positive, default=64, metavar="N", help="--quick runs each N-th class at least (%(default)s)"
+        "--grid", type=cli.positive, default=64, metavar="N", help="with --quick: run at least each N-th class (%(default)s)"
     )
     parser.add_argument(
-        "--per-place", type=cli.positive, metavar="N", help="run N classes of each interrupted instruction at most"
+        "--per-place", type=cli.positive, metavar="N", help="run at most N classes of each interrupted instruction"
     )
     parser.add_argument(
         "--seconds", type=cli.positive, metavar="N", help="end after N seconds, and tell what was run"

@@ -14,8 +14,8 @@ from avrora_tools.sweeping.simulation import Simulator
 SUMMARY = "a page to zoom into, or a picture"
 
 DESCRIPTION = """Draws a trace: nodes from top to bottom, cycles from left to right. Writes a page of HTML that needs no
-other file (zoom with the wheel, drag, click what to know more of, go to a cycle, from clash to clash, measure between
-two markers), or with --svg a picture for papers. With the scenario (-s) it knows how long a byte is on the air, and who
+other file (zoom with the wheel, drag, click for more, go to a cycle, from clash to clash, measure between two
+markers), or with --svg a picture for papers. With the scenario (-s) it knows how long a byte is on the air, and who
 clashed with whom. Exactly when a node sleeps is known only in the window of the scenario, where instructions are
 traced; with --sleep the simulator's `monitor` tells which part of each span of the run it slept. With programs (-e) a
 chosen event tells its source line, in the window. A page above 5 MB leaves events out, and says so: it keeps one of
@@ -24,7 +24,7 @@ less, and all of it. It takes a trace with its end rows, also one of `avrora res
 --head the beginning of one.
 
 With --watch, -s and -e, variables and registers have tracks of their own below their node, by their names. Enumerations
-have the names of their values; numbers are as high as they are great. The simulator runs once more for them."""
+have the names of their values; a number is drawn as high as it is great. The simulator runs once more for them."""
 
 def configure(parser: argparse.ArgumentParser) -> None:
     cli.describe(parser, DESCRIPTION, "timeline -s flood.toml -o flood.html flood.trace")
@@ -34,8 +34,8 @@ def configure(parser: argparse.ArgumentParser) -> None:
     parser.add_argument("--to", dest="end", type=cli.positive, metavar="CYCLE", help="before this cycle")
     cli.add_nodes(parser)
     cli.add_watch(parser)
-    parser.add_argument("--svg", action="store_true", help="a picture, and no page; as --out FILE.svg does")
-    parser.add_argument("--width", type=cli.positive, default=1200, help="of the picture, in pixels (%(default)s)")
+    parser.add_argument("--svg", action="store_true", help="write a picture instead of a page, as --out FILE.svg does")
+    parser.add_argument("--width", type=cli.positive, default=1200, help="the width of the picture, in pixels (%(default)s)")
     parser.add_argument(
         "--quiet",
         action="store_true",
@@ -61,7 +61,7 @@ def run(arguments: argparse.Namespace) -> int:
     if is_picture and name.endswith((".html", ".htm")):
         raise BadWords(f"--svg writes a picture, and {files.shown(arguments.out)} is the name of a page")
     if arguments.sleep and not arguments.scenario:
-        raise BadWords("--sleep wants the scenario (-s), which it runs")
+        raise BadWords("--sleep needs the scenario (-s), which it runs")
     if arguments.watch and not arguments.scenario:
         raise BadWords("--watch runs the scenario once more: name it (-s)")
     scenario = Scenario.load(arguments.scenario) if arguments.scenario else None

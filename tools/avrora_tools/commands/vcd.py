@@ -30,9 +30,9 @@ DESCRIPTION = """Writes a trace as a value change dump (VCD, IEEE 1364), for GTK
   function    with -e: the function that the instruction lies in
   stopped     1 from the node's stop on
 With --watch, -s and -e there are variables and registers too, by their names: enumerations by the names of their
-values, floating-point numbers as real ones, each from the cycle behind its write on. One of a name above gets its
-address behind it: sent@0104. The simulator runs for them once more. A time unit is a cycle, and a picosecond where --hz
-tells the clock. It takes a trace with its end rows, also one of `avrora resume` and of the tool window, or with --head
+values, floating-point numbers as real ones, each from the cycle behind its write on. If a variable has one of the
+names above, its address stands behind its name: sent@0104. The simulator runs for them once more. A time unit is a
+cycle, or with --hz a picosecond. The tool takes a trace with its end rows, also one of `avrora resume` and of the tool window, or with --head
 the beginning of one."""
 
 REAL = "real"

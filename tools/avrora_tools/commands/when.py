@@ -12,7 +12,7 @@ SUMMARY = "in which cycles a node executes a function, a line or an address"
 DESCRIPTION = """Tells in which cycles node NODE of a scenario executes PLACE: a function (where it is entered), a
 source line FILE:LINE (where each piece of its code begins), or a word address of four digits, as traces have them. It
 tells how often, between which cycles, and the cycles: a span for `sweep`, `window` or `gdb --at`. A function that the
-compiler put into others has no name there: take FILE:LINE. Functions and lines need the ELF file of the node (-e).
+compiler inlined has no entry of its own: take FILE:LINE. Functions and lines need the ELF file of the node (-e).
 
 Status 0: it is executed; 1: never; 2: there is no such place, or the words or the files are bad."""
 
@@ -23,7 +23,7 @@ def run(arguments: argparse.Namespace) -> int:
     document = document_of(arguments.scenario)
     scenario = scenarios.Scenario.load(arguments.scenario)
     if arguments.node >= len(scenario.images):
-        raise BadInput(f"there is no node {arguments.node}, as there are {len(scenario.images)}")
+        raise BadInput(f"there is no node {arguments.node}: the scenario has {len(scenario.images)}")
     end = arguments.end if arguments.end is not None else scenario.cycles
     if not arguments.first < end <= scenario.cycles:
         raise BadInput(
@@ -66,12 +66,12 @@ def print_found(
 
 def configure(parser: argparse.ArgumentParser) -> None:
     cli.describe(parser, DESCRIPTION, "when -e alarm.elf alarm.toml 2 alarm.c:24")
-    parser.add_argument("-e", "--elf", metavar="ELF", help="the program of the node")
+    parser.add_argument("-e", "--elf", metavar="ELF", help="the ELF file of the node")
     parser.add_argument("--force", action="store_true", help="take an ELF file that is not that of the node's image")
     parser.add_argument(
         "--from", dest="first", type=cli.natural, default=0, metavar="CYCLE", help="from this cycle on (%(default)s)"
     )
-    parser.add_argument("--to", dest="end", type=cli.positive, metavar="CYCLE", help="before this one; else the end")
+    parser.add_argument("--to", dest="end", type=cli.positive, metavar="CYCLE", help="before this cycle; else to the end")
     parser.add_argument("--all", action="store_true", help=f"tell all cycles, and not the first {MOST}")
     cli.add_clock(parser)
     parser.add_argument(

@@ -7,7 +7,7 @@ from avrora_tools.errors import Status
 SUMMARY = "where a scenario is at fault"
 
 DESCRIPTION = """Says where a scenario is at fault: each fault with its line, its table and number (from 0 on) and its
-key. The first is the cause that the simulator tells. Images are not read.
+key. The first is the cause that the simulator names. The tool does not read images.
 Status 0: no fault; 1: faults; 2: the file cannot be read."""
 
 

@@ -18,9 +18,9 @@ SUMMARY = "runs a scenario again, with all instructions of a window"
 
 DESCRIPTION = f"""Runs a scenario again up to cycle END with the window [FIRST, END], of at most {MAX_WINDOW:,} cycles,
 and writes the rows from FIRST on: the instructions of all nodes too. The scenario's file stays as it is. All happens as
-in the whole run; the last rows, of kind end, tell each node's state at END. From a state that `avrora save` wrote it
-runs only the rest. Status: 0; 2: no scenario, or no such window, or the simulator refuses something; 3: the simulator
-fails."""
+in the whole run; the last rows, of kind end, tell each node's state at END. With --state, which `avrora save` wrote,
+it runs only the rest. Status 0: all is written; 2: no scenario, no such window, or the simulator refuses something;
+3: the simulator fails."""
 
 
 def windowed(text: str, first: int, end: int) -> str:

@@ -56,7 +56,7 @@ def parquet_library() -> Any:
         import pyarrow
         import pyarrow.parquet
     except ImportError:
-        raise terminal.missing("pyarrow", "none; it is to be had from elsewhere") from None
+        raise terminal.missing("pyarrow", None) from None
     return pyarrow
 
 

@@ -55,9 +55,9 @@ def text_of(places: Iterable[Place]) -> str:
     takes."""
     found = sorted(set(places))
     if not found:
-        raise BadInput("nothing is to be watched")
+        raise BadInput("there is nothing to watch")
     if len(found) > MOST_PLACES:
-        raise BadInput(f"{len(found):,} bytes and instructions are to be watched, and {MOST_PLACES:,} are the most")
+        raise BadInput(f"{len(found):,} bytes and instructions to watch are too many: {MOST_PLACES:,} are the most")
     return "".join(f"{one.node} {one.kind.word} {one.address:04X}\n" for one in found)
 
 

@@ -136,7 +136,7 @@ class Names:
             match = STEP.match(name, place)
             if not match:
                 raise BadInput(
-                    f"`{files.printable(name)}`: a .member or an [element] is due behind "
+                    f"`{files.printable(name)}`: write a .member or an [element] behind "
                     f"`{files.printable(name[:place])}`"
                 )
             head = self.stepped(head, match)

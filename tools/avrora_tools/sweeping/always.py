@@ -94,8 +94,8 @@ def always_check(
 def watched(word: str, network: Network, nodes: int) -> Watched:
     match = re.fullmatch(r"\s*([0-9]{1,2})\s+(.+)", word)
     if not match:
-        raise BadWords(f"--always {files.printable(word)}: NODE CONDITION is due, such as '1 queued <= 3'")
+        raise BadWords(f"--always {files.printable(word)}: this must be NODE CONDITION, such as '1 queued <= 3'")
     node = int(match[1])
     if node >= nodes:
-        raise BadInput(f"--always: there is no node {node}, as there are {nodes}")
+        raise BadInput(f"--always: there is no node {node}: the scenario has {nodes}")
     return Watched(node, Reader(network.names(node)).read(match[2]))

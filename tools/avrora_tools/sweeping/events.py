@@ -250,7 +250,7 @@ def moved_scenario(
     scripts = {place: script_of(document, m.event) for place, m in enumerate(moved) if isinstance(m.event, InputByte)}
     nodes = [script.node for script in scripts.values()]
     if len(set(nodes)) < len(nodes):
-        raise BadWords("two bytes of one node cannot both move: one of a node does, with those behind it or alone")
+        raise BadWords("two bytes of one node cannot both move: move one, with those behind it or alone")
     for m in moved:
         check_span(document, m, until)
     begins = state_cycle if state_cycle is not None else first_epoch(moved, scripts)
@@ -273,7 +273,7 @@ def check_alone(script: Script, span: Span, begins: int) -> None:
     """Raises BadInput where a byte that moves alone would not stay between its neighbours, or where no state comes
     before."""
     if not begins:
-        raise BadInput(f"a byte moves alone behind a state, and none is before cycle {EPOCH:,}")
+        raise BadInput(f"--alone needs a state before the byte, and there is none before cycle {EPOCH:,}")
     stays = None
     if script.index > 0 and script.nominal(script.index - 1) >= span.first:
         stays = script.index - 1

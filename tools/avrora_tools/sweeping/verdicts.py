@@ -218,5 +218,5 @@ def predicate_of(path: str) -> Callable[[Run], str | None]:
 def nodes_of(count: int, chosen: Iterable[int] | None) -> list[int]:
     nodes = sorted(chosen) if chosen is not None else list(range(count))
     if nodes and nodes[-1] >= count:
-        raise BadInput(f"there is no node {nodes[-1]}, as there are {count}")
+        raise BadInput(f"there is no node {nodes[-1]}: the scenario has {count}")
     return nodes
