@@ -45,11 +45,18 @@ class Facts:
         return out
 
     def sized(self) -> list[tuple[int, int, str]]:
-        """The functions whose size the symbols tell: their first word, the one behind the last, their names."""
+        """The functions whose size the symbols tell: their first word, the one behind the last, their names. Not those
+        in which another one begins, nor those behind which none does."""
         done = subprocess.run(["avr-nm", "-S", self.elf], capture_output=True, text=True, check=True)
-        found = re.findall(r"(?m)^([0-9a-f]{8}) ([0-9a-f]{8}) [tTwW] (\S+)$", done.stdout)
-        spans = collections.Counter(at for at, _, _ in found)  # of aliases the tools name one
-        return [(int(at, 16) // 2, (int(at, 16) + int(size, 16)) // 2, name) for at, size, name in found if spans[at] == 1 and not name.startswith("__do_")]
+        spans = re.findall(r"(?m)^([0-9a-f]{8}) ([0-9a-f]{8}) [tTwW] (\S+)$", done.stdout)
+        begins = collections.Counter(int(at, 16) // 2 for at, _, _ in spans)
+        begins.update(int(at, 16) // 2 for at in re.findall(r"(?m)^([0-9a-f]{8}) [TW] \S+$", done.stdout))
+        found = [(int(at, 16) // 2, (int(at, 16) + int(size, 16)) // 2, name) for at, size, name in spans]
+        return [
+            (first, end, name)
+            for first, end, name in found
+            if sum(begins[word] for word in range(first, end)) == 1 and begins[end] and not name.startswith("__do_")
+        ]
 
     def name(self, word: int) -> str | None:
         return next((name for first, end, name in self.functions if first <= word < end), None)
@@ -131,8 +138,9 @@ def callers(facts: Facts, draw: random.Random) -> list[str]:
     out = facts.told("profile", "--callers", "-s", facts.toml, "-e", facts.elf, facts.trace)
     pairs = re.findall(r"(?m)^ *([\d,]+)  (.+) > (.+)$", out)
     names = {facts.shown(first) for first, _, _ in facts.functions}
-    told = collections.Counter({(by, to): number(count) for count, by, to in pairs if {by, to} <= names and by not in VECTORS.values()})
-    wanted = collections.Counter({pair: count for pair, count in facts.calls().items() if None not in pair and pair[0] not in VECTORS.values()})
+    names -= set(VECTORS.values())  # a handler may be interrupted between its entry and its first row
+    told = collections.Counter({(by, to): number(count) for count, by, to in pairs if {by, to} <= names})
+    wanted = collections.Counter({pair: count for pair, count in facts.calls().items() if set(pair) <= names})
     return [f"{told - wanted} too much, {wanted - told} lacking"] * (told != wanted)
 
 
@@ -221,7 +229,8 @@ def changes(facts: Facts, draw: random.Random) -> list[str]:
     found = []
     first, end = facts.first, facts.first + 3_000
     for name, address in addresses(facts).items():
-        status, out, err = run_tool("changes", "-e", facts.elf, "-n", "0", "-w", name, "--from", str(first), "--until", str(end), "--no-writers", facts.toml)
+        words = ["-e", facts.elf, "-n", "0", "-w", name, "--from", str(first), "--until", str(end), "--no-writers"]
+        status, out, err = run_tool("changes", *words, facts.toml)
         if status:
             found.append(f"{name}: status {status}: {err}")
         told = [(number(at), int(value)) for at, value in re.findall(rf"(?m)^ *([\d,]+) +0  {name}: \d+ -> (\d+)", out)]

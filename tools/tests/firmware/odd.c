@@ -132,6 +132,19 @@ RECEIVES
     one: k++; two: k ^= 3; three: ;
 #endif
 
+#ifdef labelled
+RECEIVES
+COUNTS
+static KEPT void labelled_inside(void)
+{
+    k++;
+    asm volatile("in_the_middle: nop\n nop");
+    k += 2;
+}
+#define BEGIN TICK; sei();
+#define STEP labelled_inside();
+#endif
+
 #ifdef jumps_back
 RECEIVES
 COUNTS
