@@ -388,6 +388,12 @@ class Names:
         function = program.function_at(word) if program else None
         return function.name if function else f"{word:04X}"
 
+    def is_room(self, node: int, caller: int | str, callee: int) -> bool:
+        """Whether a call is one of the next word, where no function begins: so compilers make room on the stack."""
+        program = self.programs.of(node)
+        function = program.function_at(callee) if program else None
+        return function is not None and function.first != callee and caller == callee - 1
+
     def line(self, node: int, word: int) -> str:
         program = self.programs.of(node)
         line = program.line_at(word) if program else None

@@ -151,8 +151,12 @@ def functions_of(elf: Any, end: int) -> list[Function]:
     """The functions in order; each ends where the next begins, the last one at `end`."""
     best: dict[int, tuple[bool, bool, bool, str]] = {}
     table = elf.get_section_by_name(".symtab")
-    for symbol in table.iter_symbols() if table else ():
+    symbols = list(table.iter_symbols()) if table else []
+    labels = labels_within(symbols)
+    for number, symbol in enumerate(symbols):
         kind, section = symbol["st_info"]["type"], symbol["st_shndx"]
+        if number in labels:
+            continue
         if not isinstance(section, int) or kind not in ("STT_FUNC", "STT_NOTYPE") or NO_FUNCTION.fullmatch(symbol.name):
             continue
         if not elf.get_section(section)["sh_flags"] & EXECUTABLE:
@@ -170,6 +174,23 @@ def functions_of(elf: Any, end: int) -> list[Function]:
         Function(word, after, source_name(files.printable(best[word][-1])))
         for word, after in zip(words, words[1:] + [end])
     ]
+
+
+def labels_within(symbols: Sequence[Any]) -> set[int]:
+    """The numbers of symbols that only label code within a function, whose symbol tells its size: local ones that tell
+    neither a kind nor a size. Assembly in C has such, and functions of the C library."""
+    order = sorted(range(len(symbols)), key=lambda number: int(symbols[number]["st_value"]))
+    found: set[int] = set()
+    begun, reached, waiting = -1, 0, 0  # `reached`: how far functions reach that begin before `begun`
+    for number in order:
+        at, size, info = int(symbols[number]["st_value"]), int(symbols[number]["st_size"]), symbols[number]["st_info"]
+        if at > begun:
+            begun, reached = at, max(reached, waiting)
+        if size and info["type"] in ("STT_FUNC", "STT_NOTYPE"):
+            waiting = max(waiting, at + size)
+        elif at < reached and info["type"] == "STT_NOTYPE" and info["bind"] == "STB_LOCAL":
+            found.add(number)
+    return found
 
 
 def line_places(elf: Any) -> list[tuple[int, SourceLine | None]]:

@@ -20,7 +20,11 @@ SIGNED_FIXED, UNSIGNED_FIXED = 0x0D, 0x0E
 # many bits the fraction has.
 FLOATS = {4: ("<f", 9, 23), 8: ("<d", 17, 52)}
 
-QUALIFIERS = ("DW_TAG_const_type", "DW_TAG_volatile_type")
+QUALIFIERS = ("DW_TAG_const_type", "DW_TAG_volatile_type", "DW_TAG_restrict_type", "DW_TAG_atomic_type")
+
+# Address spaces of avr-gcc, by DW_AT_address_class: the data space, segments of 64 KiB of the flash (`__flash` is the
+# first), and both (`__memx`), where the highest bit tells the data space.
+DATA, FIRST_SEGMENT, BOTH = 0, 1, 7
 
 MOST_ELEMENTS = 24  # of an array that are shown, runs of one value taken together
 MOST_DEPTH = 8
@@ -130,16 +134,22 @@ class Enumeration:
 
 @dataclass(frozen=True)
 class Pointer:
-    """A pointer to data, or to a function."""
+    """A pointer to data, or to a function; `space` is the address space of what it points to."""
 
     name: str
     is_code: bool
     size: int = 2
+    space: int = DATA
 
     def shown(self, data: bytes, memory: Memory, depth: int = 0) -> str:
         value = int.from_bytes(data, "little")
         if value == 0:
             return "0"
+        is_in_data = value >> 8 * self.size - 1 if self.space == BOTH else self.space == DATA
+        if not is_in_data:
+            segment = 0 if self.space == BOTH else self.space - FIRST_SEGMENT
+            return f"0x{(segment << 16) + value:04X} of the flash"
+        value &= 0xFFFF
         target = memory.function_at(value) if self.is_code else memory.object_at(value)
         return f"0x{value:04X}" + (f" {'' if self.is_code else '&'}{target}" if target else "")
 
@@ -413,10 +423,10 @@ class Unit:
             "DW_TAG_pointer_type": lambda: self.pointer(entry),
             "DW_TAG_array_type": lambda: self.array(entry),
             "DW_TAG_structure_type": lambda: self.structure(entry, name or "struct", size),
+            "DW_TAG_class_type": lambda: self.structure(entry, name or "class", size),
             "DW_TAG_union_type": lambda: self.structure(entry, name or "union", size),
             "DW_TAG_typedef": lambda: self.renamed(entry, name),
-            "DW_TAG_const_type": lambda: self.type_of(entry),
-            "DW_TAG_volatile_type": lambda: self.type_of(entry),
+            **dict.fromkeys(QUALIFIERS, lambda: self.type_of(entry)),
             "DW_TAG_subroutine_type": lambda: Opaque("function", 0),
         }
         return makers.get(entry.tag, lambda: Opaque(name or "?", size))()
@@ -428,20 +438,22 @@ class Unit:
         return Renamed(name, type_)
 
     def pointer(self, entry: Any) -> Pointer:
+        size = int(self.attribute(entry, "DW_AT_byte_size") or 2)
+        space = int(self.attribute(entry, "DW_AT_address_class") or DATA)
         if "DW_AT_type" not in entry.attributes:
-            return Pointer("void *", False)
+            return Pointer("void *", False, size, space)
         target = self.referred(entry)
-        is_code = target.tag == "DW_TAG_subroutine_type"
+        is_code = self.behind(target, (*QUALIFIERS, "DW_TAG_typedef")).tag == "DW_TAG_subroutine_type"
         # A structure may have a pointer to itself, so only the name of the target is looked at.
-        aim = self.named(target)
-        no_name = b"void" if aim.tag in QUALIFIERS else b".."
-        name = "function" if is_code else text_in(self.attribute(aim, "DW_AT_name") or no_name)
-        return Pointer(f"{name} *", is_code)
+        aim = self.behind(target, QUALIFIERS)
+        no_name = b"function" if is_code else b"void" if aim.tag in QUALIFIERS else b".."
+        name = text_in(self.attribute(aim, "DW_AT_name") or no_name)
+        return Pointer(f"{name} *", is_code, size, space)
 
-    def named(self, entry: Any) -> Any:
-        """The entry behind qualifiers, or one of them where they go round."""
+    def behind(self, entry: Any, tags: Sequence[str]) -> Any:
+        """The entry behind those of some tags, or one of them where they go round."""
         seen: set[int] = set()
-        while entry.tag in QUALIFIERS and "DW_AT_type" in entry.attributes and entry.offset not in seen:
+        while entry.tag in tags and "DW_AT_type" in entry.attributes and entry.offset not in seen:
             seen.add(entry.offset)
             entry = self.referred(entry)
         return entry
@@ -462,12 +474,13 @@ class Unit:
         return int(bound) + 1 if isinstance(bound, int) else 0
 
     def structure(self, entry: Any, name: str, size: int) -> Structure:
-        members = tuple(self.member(one) for one in entry.iter_children() if one.tag == "DW_TAG_member")
+        members = tuple(self.member(one) for one in entry.iter_children() if is_part(one))
         return Structure(name, size, members, sum(values_in(one.type) for one in members))
 
     def member(self, entry: Any) -> Member:
         type_ = self.type_of(entry)
-        name = text_in(self.attribute(entry, "DW_AT_name") or b"(unnamed)")
+        is_base = entry.tag == "DW_TAG_inheritance"
+        name = type_.name if is_base else text_in(self.attribute(entry, "DW_AT_name") or b"(unnamed)")
         bits = self.attribute(entry, "DW_AT_bit_size")
         if bits is None:
             return Member(name, elf_files.member_offset(entry), type_)
@@ -478,6 +491,12 @@ class Unit:
         size = int(self.attribute(entry, "DW_AT_byte_size") or type_.size)
         from_highest = elf_files.signed_value(entry.attributes["DW_AT_bit_offset"])
         return Member(name, at, type_, int(bits), 8 * size - from_highest - int(bits))
+
+
+def is_part(entry: Any) -> bool:
+    """Whether an entry within that of a structure is a part of each value: a member that is not static, a base."""
+    is_static = "DW_AT_declaration" in entry.attributes or "DW_AT_external" in entry.attributes
+    return entry.tag in ("DW_TAG_member", "DW_TAG_inheritance") and not is_static
 
 
 def text_in(name: bytes) -> str:

@@ -136,24 +136,21 @@ def mixed(draw: random.Random, folder: Path) -> tuple[int, str]:
     (folder / "moved.c").write_text(source(draw), encoding="utf-8")
     flags = draw.choice(FLAGS)
     compiled(folder / "moved.c", folder, *flags)
+    (folder / "any.expect").write_text("never * 0 serial 00\n", encoding="utf-8")
+    wrong, said = moved(folder, draw, "--expect", str(folder / "any.expect"))
+    return wrong, f"{' '.join(flags)}: {said}"
+
+
+def moved(folder: Path, draw: random.Random, *check: str) -> tuple[int, str]:
+    """The same of the image moved.hex in a folder, by the words of a check."""
     span = FIRST + draw.randint(0, 5_000)
     toml = scenario("moved.hex", folder / "moved.toml", at=span, hex_=draw.choice(["41", "4142", "FF"]))
     parser = Parser()
     command.configure(parser)
-    words = [
-        "--start",
-        f"0={span}..{span + MOVES - 1}",
-        "--until",
-        str(span + AFTER),
-        "--jobs",
-        "2",
-        "--expect",
-        str(folder / "any.expect"),
-    ]
-    (folder / "any.expect").write_text("never * 0 serial 00\n", encoding="utf-8")
+    words = ["--start", f"0={span}..{span + MOVES - 1}", "--until", str(span + AFTER), "--jobs", "2"]
     said = io.StringIO()
-    with command.prepared(parser.parse_args([*words, str(toml)])) as sweep, contextlib.redirect_stdout(said):
-        return compare(sweep), f"{' '.join(flags)}: {said.getvalue().strip()}"
+    with command.prepared(parser.parse_args([*words, *check, str(toml)])) as sweep, contextlib.redirect_stdout(said):
+        return compare(sweep), said.getvalue().strip()
 
 
 def main() -> int:

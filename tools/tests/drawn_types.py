@@ -57,12 +57,21 @@ FIXED = {
 }
 
 
+# Pointers to variables, to functions, to the flash, to one of both. gdb takes pointers to one type for equally long,
+# and prints no third byte.
+POINTERS = ("pointer", "code", "flash", "both")
+THREE_BYTES = "((unsigned char *)&{0})[2] * 65536L + ((unsigned char *)&{0})[1] * 256L + *(unsigned char *)&{0}"
+UNNAMED = "(unnamed)"
+TAGGED = re.compile("(struct|union) S")
+
+
 @dataclass
 class Drawn:
     """A type: a leaf, an array of `count`, or a structure or union of members; how it is declared, given a name."""
 
     kind: str
     name: str = ""
+    qualifier: str = ""  # of a pointer itself
     count: int = 0
     element: "Drawn | None" = None
     members: list[tuple[str, "Drawn", int | None]] = field(default_factory=list)
@@ -70,20 +79,24 @@ class Drawn:
     def declared(self, what: str) -> str:
         if self.kind == "array":
             return self.element.declared(f"{what}[{self.count}]")
-        if self.kind == "pointer":
-            return f"{self.name} *{what}"
+        if self.kind == "text":
+            return f"char {what}[{self.count}]"
+        if self.kind == "code" and not self.name:
+            return f"uint8_t (*{self.qualifier} {what})(int, void *)"
+        if self.kind in POINTERS and not self.name.startswith("pointer"):
+            return f"{self.name} *{self.qualifier} {what}"
         if (
             self.kind == "structure"
             and self.members
-            and not self.name.startswith("struct S")
-            and not self.name.startswith("union S")
+            and not TAGGED.match(self.name)
         ):
             return f"{self.body()} {what}"
         return f"{self.name} {what}"
 
     def body(self) -> str:
         members = " ".join(
-            f"{type_.declared(name)}{f' : {bits}' if bits else ''};" for name, type_, bits in self.members
+            f"{type_.declared('' if name == UNNAMED else name)}{f' : {bits}' if bits else ''};"
+            for name, type_, bits in self.members
         )
         word, _, attribute = self.name.partition(" ")
         packed = "__attribute__((packed)) " if "packed" in attribute else ""
@@ -114,22 +127,37 @@ class Drawer:
     def element(self, depth: int) -> Drawn:
         while True:
             found = self.type(depth)
-            if found.name != "char":  # arrays of which are texts
+            if found.name != "char" and found.kind != "both":  # arrays are texts; gdb takes two bytes for an element
                 return found
 
     def leaf(self) -> Drawn:
         draw = self.random.random()
         if draw < 0.2:
             return self.enumeration()
-        if draw < 0.3:
-            return Drawn("pointer", self.random.choice(["uint8_t", "void", "const char", "struct opaque"]))
-        if draw < 0.45:
+        if draw < 0.35:
+            return self.pointer()
+        if draw < 0.38:
+            return Drawn("text", count=self.random.randint(1, 6))
+        if draw < 0.48:
             name = self.random.choice(list(FIXED))
             return Drawn("fixed", name)
         name = self.random.choice([*INTEGERS, *OTHERS])
         return Drawn(
             "leaf", self.renamed(self.random.choice(["", "", "volatile ", "const "]) + name) if name != "char" else name
         )
+
+    def pointer(self) -> Drawn:
+        qualifier = self.random.choice(["", "", "restrict", "volatile", "const volatile", "volatile restrict"])
+        kind = self.random.choice(POINTERS)
+        if kind == "code":
+            name = self.random.choice(["", "routine", "const routine", "again", "pointer", "pointer_again"])
+            return Drawn(kind, name, qualifier.replace("restrict", ""))
+        targets = {
+            "pointer": ["uint8_t", "void", "const char", "struct opaque", "uint8_t *", "routine *", "const volatile int"],
+            "flash": ["const __flash char", "const __flash uint16_t", "const __flash struct opaque"],
+            "both": ["const __memx struct far", "const volatile __memx struct far"],
+        }
+        return Drawn(kind, self.random.choice(targets[kind]), qualifier)
 
     def renamed(self, name: str) -> str:
         if self.random.random() < 0.2:
@@ -173,7 +201,10 @@ class Drawer:
                 type_ = Drawn("leaf", name)
                 if self.random.random() < 0.2:
                     type_, bits = self.enumeration(), self.random.randint(1, 8)
-            found.members.append((self.fresh("m"), type_, bits))
+            name = self.fresh("m")
+            if type_.kind == "structure" and not TAGGED.match(type_.name) and self.random.random() < 0.5:
+                name = UNNAMED
+            found.members.append((name, type_, bits))
         if self.random.random() < 0.5:  # with a tag
             tag = self.fresh("S")
             found.name = f"{word} {packed}{tag}"
@@ -187,12 +218,23 @@ def leaves(type_: Drawn, path: str) -> list[str]:
     if type_.kind == "array":
         return [leaf for i in range(type_.count) for leaf in leaves(type_.element, f"{path}[{i}]")]
     if type_.kind == "structure":
-        return [leaf for name, member, _ in type_.members for leaf in leaves(member, f"{path}.{name}")]
-    return [as_integer(type_, path) if type_.kind == "fixed" else path]
+        return [leaf for name, member, _ in type_.members for leaf in leaves(member, within(path, name))]
+    if type_.kind == "text":
+        return [f"{path}[{i}]" for i in range(type_.count)]
+    return [asked(type_, path)]
 
 
-def as_integer(type_: Drawn, path: str) -> str:
-    return f"*({FIXED[type_.name][1]} *)&{path}"
+def within(path: str, name: str) -> str:
+    return path if name == UNNAMED else f"{path}.{name}"
+
+
+def asked(type_: Drawn, path: str) -> str:
+    """What gdb is asked for of a leaf."""
+    if type_.kind == "both":
+        return THREE_BYTES.format(path)
+    if type_.kind == "code" and type_.name.endswith(("routine", "again")):
+        return f"2L * *(uint16_t *)&{path}"  # gdb takes a typedef of a function for data
+    return f"*({FIXED[type_.name][1]} *)&{path}" if type_.kind == "fixed" else path
 
 
 def text(type_: Drawn, path: str, values: dict[str, str]) -> str:
@@ -203,13 +245,14 @@ def text(type_: Drawn, path: str, values: dict[str, str]) -> str:
     if type_.kind == "structure":
         return (
             "{"
-            + ", ".join(f"{name} {text(member, f'{path}.{name}', values)}" for name, member, _ in type_.members)
+            + ", ".join(f"{name} {text(member, within(path, name), values)}" for name, member, _ in type_.members)
             + "}"
         )
-    said = values[as_integer(type_, path) if type_.kind == "fixed" else path]
-    if type_.kind == "pointer":
-        address = int(re.search(r"0x([0-9a-f]+)", said)[1], 16) & 0xFFFF
-        return f"0x{address:04X}" if address else "0"
+    if type_.kind == "text":
+        return characters([values[f"{path}[{i}]"] for i in range(type_.count)])
+    said = values[asked(type_, path)]
+    if type_.kind in POINTERS:
+        return target(type_.kind, int(re.search(r"0x[0-9a-f]+|^\d+", said)[0], 0))
     if type_.kind == "fixed":
         said = said.split()[0]
         return f"{int(said) / (1 << FIXED[type_.name][0]):.10g} (raw {said})"
@@ -217,6 +260,29 @@ def text(type_: Drawn, path: str, values: dict[str, str]) -> str:
         number = int(said.split()[0])
         return f"{number} {chr(number)!r}" if 0x20 <= number <= 0x7E else str(number)
     return re.sub(r" '.*", "", said) if type_.kind == "leaf" else said
+
+
+def target(kind: str, number: int) -> str:
+    """How a pointer is to be shown, by the number that gdb tells: of a function its byte address."""
+    number = number // 2 & 0xFFFF if kind == "code" else number if kind == "both" else number & 0xFFFF
+    if not number:
+        return "0"
+    if kind == "flash" or kind == "both" and number < 0x800000:
+        return f"0x{number:04X} of the flash"
+    return f"0x{number & 0xFFFF:04X} {'a function' if kind == 'code' else '&a variable'}"
+
+
+def characters(printed: list[str]) -> str:
+    """How an array of characters is to be shown, by what gdb tells of each."""
+    numbers = [int(one.split()[0]) for one in printed]
+    whole = bytes(number & 0xFF for number in numbers).rstrip(b"\0")
+    if whole and all(0x20 <= byte <= 0x7E or byte in b"\n\r\t" for byte in whole):
+        escaped = whole.decode().replace("\\", "\\\\").replace('"', '\\"')
+        for letter, escape in (("\n", "\\n"), ("\r", "\\r"), ("\t", "\\t")):
+            escaped = escaped.replace(letter, escape)
+        return f'"{escaped}"'
+    parts = [f"{number} {chr(number)!r}" if 0x20 <= number <= 0x7E else str(number) for number in numbers]
+    return "{" + ", ".join(folded(parts)) + "}"
 
 
 def folded(parts: list[str]) -> list[str]:
@@ -238,11 +304,11 @@ class Filled:
     def read(self, address: int, size: int) -> bytes:
         return self.data[address - self.first : address - self.first + size]
 
-    def object_at(self, address: int) -> None:
-        return None
+    def object_at(self, address: int) -> str:
+        return "a variable"
 
-    def function_at(self, word: int) -> None:
-        return None
+    def function_at(self, word: int) -> str:
+        return "a function"
 
 
 BATCH = 60  # types of one program
@@ -259,19 +325,26 @@ def differences(count: int, seed: int, folder: Path) -> list[str]:
 def batch(count: int, seed: int, folder: Path) -> list[str]:
     drawer = Drawer(seed)
     types = {f"v{number}": drawer.type() for number in range(count)}
-    lines = [f'{type_.declared(name)} __attribute__((section(".data")));' for name, type_ in types.items()]
+    is_static = {name: drawer.random.random() < 0.2 for name in types}
+    lines = {name: f'{type_.declared(name)} __attribute__((section(".data"), used));' for name, type_ in types.items()}
     source = "\n".join(
         [
             "#include <stdint.h>",
             "int64_t whole; uint64_t natural; int32_t w; uint32_t n; int16_t i; uint16_t u; int8_t c;",
+            "typedef void routine(uint8_t); typedef routine again; typedef uint8_t (*pointer)(int);",
+            "typedef pointer pointer_again;",
             *drawer.declarations,
-            *lines,
-            "int main(void) { for (;;); }",
+            *(line for name, line in lines.items() if not is_static[name]),
+            "static __attribute__((noinline)) void kept(void) {",
+            *(f"static {line}" for name, line in lines.items() if is_static[name]),
+            "asm volatile(\"\"); }",
+            "int main(void) { for (;;) kept(); }",
         ]
     )
     (folder / "drawn.c").write_text(source)
+    dwarf = drawer.random.choice(["-gdwarf-2", "-gdwarf-3", "-gdwarf-4"])
     subprocess.run(
-        ["avr-gcc", "-mmcu=atmega128", "-w", "-gdwarf-2", "-Os", "drawn.c", "-o", "drawn.elf"], cwd=folder, check=True
+        ["avr-gcc", "-mmcu=atmega128", "-w", dwarf, "-Os", "drawn.c", "-o", "drawn.elf"], cwd=folder, check=True
     )
     with open(folder / "drawn.elf", "rb") as file:
         section = ELFFile(file).get_section_by_name(".data")
@@ -279,15 +352,16 @@ def batch(count: int, seed: int, folder: Path) -> list[str]:
     data = bytes(drawer.random.choice((0, 0xFF, drawer.random.randrange(256))) for _ in range(size))
     (folder / "data").write_bytes(data)
     subprocess.run(["avr-objcopy", "--update-section", ".data=data", "drawn.elf"], cwd=folder, check=True)
-    values = printed_by_gdb([leaf for name, type_ in types.items() for leaf in leaves(type_, name)], folder)
+    paths = {name: f"kept::{name}" if is_static[name] else name for name in types}
+    values = printed_by_gdb([leaf for name, type_ in types.items() for leaf in leaves(type_, paths[name])], folder)
     memory = Filled(data, at)
     told = {
-        one.name: one.type.shown(memory.read(one.address, one.type.size), memory)
+        one.name.removeprefix("kept."): one.type.shown(memory.read(one.address, one.type.size), memory)
         for one in variables_of(str(folder / "drawn.elf"))
     }
-    wanted = {name: text(type_, name, values) for name, type_ in types.items()}
+    wanted = {name: text(type_, paths[name], values) for name, type_ in types.items()}
     return [
-        f"seed {seed}: {types[name].declared(name)}\n  inspect: {told.get(name)}\n  gdb:     {wanted[name]}"
+        f"seed {seed}, {dwarf}: {types[name].declared(name)}\n  inspect: {told.get(name)}\n  gdb:     {wanted[name]}"
         for name in types
         if told.get(name) != wanted[name]
     ]

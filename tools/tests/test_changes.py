@@ -203,11 +203,23 @@ def test_conditions_that_a_run_breaks_are_told_with_who_wrote(folder, stores, st
         (["within 4_000..: always 0 ticks < 3"], "the run ends in cycle 3000"),
         (["before 0: always 0 ticks < 3"], "no cycle comes before 0"),
         (["never * * stop *"], "no condition is stated"),
+        (["reaches 0 ticks == 0"], "`ticks == 0`: it holds at reset, where all memory is 0, so it cannot fail"),
+        (["within ..2_000: reaches 0 !box.level && SREG.I == 0"], "it holds at reset"),
+        (["before 9: reaches 0 ratio < 0.05"], "it holds at reset"),
     ],
 )
 def test_conditions_that_no_run_decides_are_refused(folder, statements, why):
     status, output, errors = judged(folder, *statements)
     assert status == 2 and why in output + errors, output + errors
+
+
+def test_what_does_not_hold_at_reset_may_be_reached(folder, stores):
+    at = stores[address_of(folder, "ticks")][2]
+    met = [f"within {at + 1}..: reaches 0 ticks == 3", "reaches 0 ticks == 1", "reaches 0 PORTB == 0 && ticks != 1"]
+    status, output, errors = judged(folder, *met)
+    assert status == 0, output + errors
+    status, output, _ = judged(folder, f"within {at + 1}..: reaches 0 ticks == 0")
+    assert status == 1 and "and never did" in output
 
 
 def test_a_condition_needs_a_run(folder):

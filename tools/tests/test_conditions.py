@@ -111,6 +111,10 @@ def test_what_is_no_number_fulfils_nothing():
         "level * wide <= 8388480",
         "-wide <= 0 && ~wide < level + 129",
         "row[wide & 1][0] < 256",
+        "(wide >> 8) <= 255 || other",
+        "(wide << 4) <= 1048560 || other",
+        "(level >> 2) >= -32 || wide",
+        "(wide | 1) && (count | 4) >= 4",
     ],
 )
 def test_what_holds_of_all_of_many_values_is_refused(text):
@@ -119,6 +123,31 @@ def test_what_holds_of_all_of_many_values_is_refused(text):
         read(text)
     with pytest.raises(BadInput, match="does not hold whatever the values are"):
         read(f"!({text})")
+
+
+@pytest.mark.parametrize(
+    "text, below, above",
+    [
+        ("ratio < 1.05", 1.04, 1.06),
+        ("ratio < 0.05", 0.04, 0.06),
+        ("ratio < .010", 0.009, 0.011),
+        ("ratio < 1.010", 1.0, 1.1),
+        ("ratio < 1.5e-05", 1.4e-5, 1.6e-5),
+        ("ratio < 1e-010", 0.9e-10, 1.1e-10),
+        ("ratio < 2e+010", 1.9e10, 2.1e10),
+        ("ratio < 7.", 6.9, 7.1),
+        ("ratio * 010 < 08.4", 1.04, 1.06),
+        ("ratio < 010 - 6.95", 1.04, 1.06),
+    ],
+)
+def test_digits_behind_a_point_are_not_octal(text, below, above):
+    assert holds(text, ratio=below) and not holds(text, ratio=above)
+
+
+def test_octal_numbers_are_those_of_c():
+    assert holds("wide == 010 && count == 00 && wide != 10", wide=8, count=0)
+    assert holds("wide == 017u && row[01][02] == 7", wide=15)
+    assert of_python("PORTB.3 && q[1].5") == "PORTB.bit3  and  q[1].5"
 
 
 def test_what_some_values_change_is_taken():
@@ -132,7 +161,8 @@ def test_ranges_have_all_that_a_term_may_be():
     numbers = {"wide": [0, 1, 65535, 4096], "level": [-128, -1, 0, 127], "count": [0, 1, 255]}
     words = ["wide", "level", "count", "(wide - level)", "(wide & count)", "(wide ^ 3)", "-level", "~wide"]
     words += ["(wide % 9)", "level * count", "(wide >> 2)", "(level % 5)", "(wide | count)", "(level / 3)"]
-    words += ["(level & wide)", "(level ^ count)", "(wide / 7)"]
+    words += ["(level & wide)", "(level ^ count)", "(wide / 7)", "(level >> 3)", "(wide << 5)", "(level << 2)", "(wide | 5)"]
+    words += ["(1 << (count % 9))", "(level | count)", "(level >> (count & 7))"]
     both = 0
     for _ in range(400):
         sign = draw.choice(["<", "<=", ">", ">=", "==", "!="])

@@ -37,11 +37,13 @@ def print_flat(title: str, spent: Mapping[int, Spent], name_of: Namer) -> None:
 INTERRUPT = "(interrupt)"  # what calls the handler that has its name
 
 
-def print_callers(calls: Mapping[Call, int], name_of: Namer) -> None:
+def print_callers(calls: Mapping[Call, int], names: Names) -> None:
     by_name: collections.Counter[tuple[str, str]] = collections.Counter()
     for (node, caller, callee), count in calls.items():
-        called = name_of(node, callee)
-        by = name_of(node, caller) if isinstance(caller, int) else INTERRUPT if caller == called else caller
+        if names.is_room(node, caller, callee):
+            continue
+        called = names.function(node, callee)
+        by = names.function(node, caller) if isinstance(caller, int) else INTERRUPT if caller == called else caller
         by_name[by, called] += count
     print(f"\ncalls\n{'calls':>12}")
     for (by, called), count in sorted(by_name.items(), key=lambda item: (-item[1], item[0])):
@@ -92,7 +94,7 @@ def run(arguments: argparse.Namespace) -> int:
     if arguments.lines:
         print_flat("by source line", spent, names.line)
     if arguments.callers and calls is not None:
-        print_callers({key: count for key, count in calls.items() if key[0] in spent}, names.function)
+        print_callers({key: count for key, count in calls.items() if key[0] in spent}, names)
     if arguments.coverage:
         print_coverage(spent, all_programs)
     return 0

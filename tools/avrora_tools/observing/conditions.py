@@ -100,9 +100,11 @@ NOT = "__not__"
 # Names that are numbers.
 CONSTANTS = {"true": 1, "false": 0, "NULL": 0}
 
-# A bit of a register, as PORTB.3. A character stays as it is; else what C spells otherwise than Python.
+# A bit of a register, as PORTB.3. Characters and numbers with a point or an exponent stay as they are; else what C
+# spells otherwise than Python.
 BIT = re.compile(r"\b([A-Za-z_]\w*)\.([0-7])\b")
-C_WORDS = re.compile(r"""'(?:\\.|[^'\\])+'|&&|\|\||!=|!|->|\b0[0-7]+\b(?![\w.])|\b(\d+|0[xX][0-9A-Fa-f]+)[uUlL]+\b""")
+KEPT = r"""'(?:\\.|[^'\\])+'|(?<![\w.\]])(?:\d+\.\d*|\.\d+|\d+(?=[eE]))(?:[eE][+-]?\d+)?"""
+C_WORDS = re.compile(rf"({KEPT})|&&|\|\||!=|!|->|\b(0[0-7]+)[uUlL]*\b(?![\w.])|\b(\d+|0[xX][0-9A-Fa-f]+)[uUlL]+\b")
 
 
 def of_python(text: str) -> str:
@@ -110,12 +112,12 @@ def of_python(text: str) -> str:
 
     def word(match: re.Match[str]) -> str:
         found = match[0]
-        if found.startswith("'") or found == "!=":
+        if match[1] or found == "!=":
             return found
-        if found[0] == "0" and len(found) > 1 and found.isdigit():
-            return str(int(found, 8))
-        if match[1]:
-            return match[1]
+        if match[2]:
+            return str(int(match[2], 8))
+        if match[3]:
+            return match[3]
         return {"&&": " and ", "||": " or ", "!": f" {NOT} ** ", "->": "."}[found]
 
     return C_WORDS.sub(word, BIT.sub(r"\1.bit\2", text))

@@ -10,13 +10,15 @@ from avrora_tools.debugging.history import history
 from avrora_tools.errors import BadInput
 from avrora_tools.expectations import opened
 from avrora_tools.fields import EVERY, Span
-from avrora_tools.observing.conditions import Reader
+from avrora_tools.observing.conditions import Condition, Reader
+from avrora_tools.observing.places import REGISTERS, SP_LOW, SREG
 from avrora_tools.observing.running import Network, Run
 from avrora_tools.observing.searching import Broken, Watched, turns
 from avrora_tools.observing.writers import Writers
 from avrora_tools.opening import Where
 from avrora_tools.programs import Programs
 from avrora_tools.scenarios import Scenario
+from avrora_tools.states import SRAM_FIRST
 
 NAMED_BY = "`elf FILE`"  # how a case names a program
 STARTING = 1_000  # cycles from reset in which the code before `main` may still write initial values
@@ -34,6 +36,14 @@ def beside(case: Case, word: str) -> str:
     path = os.path.join(case.folder, path)
     files.refuse_endless(path)
     return f"{nodes}={path}" if nodes else path
+
+
+def holds_at_reset(condition: Condition) -> bool:
+    """Whether a condition certainly holds as cycle 0 begins: general registers, SP, SREG and the SRAM are 0 then."""
+    places = [place.address for one in condition.quantities for place in one.places(0)]
+    if any(REGISTERS <= at < SRAM_FIRST and at not in (SP_LOW, SP_LOW + 1, SREG) for at in places):
+        return False
+    return condition.holds({one.name: one.number(bytes(one.size)) for one in condition.quantities})
 
 
 @dataclass
@@ -106,9 +116,13 @@ class Observer:
             why = f"the run ends in cycle {self.scenario.cycles}, and not within {one.span}"
             raise BadInput(f"{self.name}, line {one.line}: {why}")
         try:
-            return Watched(one.node, Reader(self.network.names(one.node)).read(one.text))
+            found = Reader(self.network.names(one.node)).read(one.text)
         except BadInput as fault:
             raise BadInput(f"{self.name}, line {one.line}: {fault}") from None
+        if one.word == "reaches" and (one.span or EVERY).first == 0 and holds_at_reset(found):
+            why = f"it holds at reset, where all memory is 0, so it cannot fail; `within {STARTING:_}..: reaches` looks"
+            raise BadInput(f"{self.name}, line {one.line}: `{files.printable(one.text)}`: {why} from then on")
+        return Watched(one.node, found)
 
     def failures(self) -> Iterator[str]:
         """What is not met, a text each."""

@@ -2,6 +2,7 @@
 value can change, also where its values are too many to try each."""
 import ast
 import math
+import operator
 from collections.abc import Callable, Sequence
 from typing import NamedTuple
 
@@ -120,8 +121,25 @@ def joined_bits(a: Range, b: Range) -> Range:
     return Range(0, (1 << int(max(a.high, b.high)).bit_length()) - 1, none)
 
 
-def unknown(a: Range, b: Range) -> Range:
-    return Range(-math.inf, math.inf, a.may_be_none or b.may_be_none)
+def common_bits(a: Range, b: Range) -> Range:
+    """`|`: of what is not below 0 it is no less than each of both."""
+    found = joined_bits(a, b)
+    return found._replace(low=max(a.low, b.low)) if found.is_known() else found
+
+
+MOST_SHIFTED = 63  # bits
+
+
+def shifted(work: Callable[[int, int], int]) -> Callable[[Range, Range], Range]:
+    """`<<` and `>>` of whole numbers lie between what comes of the ends."""
+    corners = of_corners(lambda x, y: work(int(x), int(y)))
+
+    def found(a: Range, b: Range) -> Range:
+        if not a.is_known() or not 0 <= b.low <= b.high <= MOST_SHIFTED:
+            return Range(-math.inf, math.inf, a.may_be_none or b.may_be_none)
+        return corners(a, b)
+
+    return found
 
 
 OPERATIONS: dict[type[ast.operator], Callable[[Range, Range], Range]] = {
@@ -131,10 +149,10 @@ OPERATIONS: dict[type[ast.operator], Callable[[Range, Range], Range]] = {
     ast.Div: quotient,
     ast.Mod: remainder,
     ast.BitAnd: bits_of_both,
-    ast.BitOr: joined_bits,
+    ast.BitOr: common_bits,
     ast.BitXor: joined_bits,
-    ast.LShift: unknown,
-    ast.RShift: unknown,
+    ast.LShift: shifted(operator.lshift),
+    ast.RShift: shifted(operator.rshift),
 }
 
 
