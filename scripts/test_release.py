@@ -391,7 +391,7 @@ class Launcher(OfARepository):
         for words in ("-h", "--help"):
             self.assertEqual(self.avrora(words), (0, out, ""))
         self.assertEqual(self.avrora(), (2, "", f"avrora: bad command line\n{out}(a command is missing)\n"))
-        self.assertEqual(self.avrora("bad"), (2, "", f"avrora: bad command line\n{out}('bad': no command)\n"))
+        self.assertEqual(self.avrora("bad"), (2, "", f"avrora: bad command line\n{out}('bad': there is no such command)\n"))
         # both launchers have one text
         here = self.repository.avrora("help")[1].replace("./avrora", "avrora").splitlines()
         self.assertEqual([it for it in out.splitlines() if it not in here], [])
