@@ -168,7 +168,7 @@ over "a stretch of 16,384" 15360 2908 "$(($(stretches 16384) - h))"
 # Under valgrind one thread runs at a time, so a thread that looks for the others instead of sleeping takes far more.
 cp "$top/bench/ring.hex" "$top/examples/flood.hex" "$work"
 network 8 ring 300000 "latency = 3072" "byte_time = 3072" >"$work/network.toml"
-over "ring of 8, threads to one thread" "$(host_of run --plain network.toml)" 1.12 "$(host_of run network.toml)"
+over "ring of 8, run beside run --plain" "$(host_of run --plain network.toml)" 1.12 "$(host_of run network.toml)"
 network 8 flood 600000 "latency = 300" "byte_time = 1024" >"$work/network.toml"
-over "ring of 8 with flood, threads to one thread" "$(host_of run --plain network.toml)" 1.10 "$(host_of run network.toml)"
+over "ring of 8 with flood, run beside run --plain" "$(host_of run --plain network.toml)" 1.10 "$(host_of run network.toml)"
 exit $status

@@ -4,8 +4,9 @@
 # a yardstick as many times with `run --plain` at once as there are processors. It prints the medians of the time on the
 # wall, and how many times as fast the run by threads is. It prints how many times as much the yardstick gets done in a
 # time, and what part of that the threads get. It prints the medians of the processor time of `run --plain` and of
-# `run`. With strace it counts in one run by threads how often a node slept until another was far enough, how often a
-# thread slept at the lock of the record, and the threads begun. It counts the samples, and compares the traces.
+# `run`. With strace it counts in one run by threads how often a node slept at a sample until another was far enough,
+# how often a thread slept at the lock of the record, and the threads begun. It counts the samples, and compares the
+# traces.
 . "$(dirname "$0")/help.sh"
 set -eu -o pipefail
 . "$(dirname "$0")/program.sh"
@@ -46,39 +47,39 @@ at_once() {
 # median: of the numbers in the input, a line each.
 median() { sort -n | sed -n "$((turns / 2 + 1))p"; }
 
-# sleeps FILE: of a run by threads the sleeps until a node is far enough, those at the lock, and the threads begun; a `-`
-# for each where strace is missing. A node that waits for another sleeps for less than a second at a time. A thread at the
-# lock sleeps without an end, on a word that is 2 while somebody sleeps there. A call that came too late slept for no time.
+# sleeps FILE: of a run by threads the sleeps at samples, those at the lock, and the threads begun; a `-` for each where
+# strace is missing. At a sample a node sleeps for less than a second at a time. A thread at the lock sleeps without an
+# end, on a word that is 2 while somebody sleeps there. A call that came too late (EAGAIN) slept for no time.
 sleeps() {
     if ! command -v strace >/dev/null || ! strace -f -e trace=futex,clone,clone3 -o calls.txt "$program" run "$1" >/dev/null 2>&1; then
         echo - - -
         return
     fi
     awk '/= -1 EAGAIN/ { next }
-        /FUTEX_WAIT_PRIVATE, [0-9]+, \{tv_sec=0,/ { nodes++ }
+        /FUTEX_WAIT_PRIVATE, [0-9]+, \{tv_sec=0,/ { waits++ }
         /FUTEX_WAIT_PRIVATE, 2, (NULL|\{tv_sec=[1-9])/ { lock++ }
         / clone3?\(/ { begun++ }
-        END { print nodes + 0, lock + 0, begun + 0 }' calls.txt
+        END { print waits + 0, lock + 0, begun + 0 }' calls.txt
 }
 
 # report NAME FILE
 report() {
     : >plain.s; : >threads.s; : >side.us
-    local k nodes lock begun
+    local k waits lock begun
     for ((k = 0; k < turns; k++)); do
         timed plain.out run --plain "$2" >>plain.s
         timed threads.out run "$2" >>threads.s
         at_once "$2" >>side.us
         cmp plain.out threads.out
     done
-    read -r nodes lock begun < <(sleeps "$2")
+    read -r waits lock begun < <(sleeps "$2")
     awk -v n="$1" -v p="$(wall plain.s)" -v t="$(wall threads.s)" -v s="$(median <side.us)" -v m="$cores" \
         -v q="$(used plain.s)" -v u="$(used threads.s)" -v r="$(wc -l <plain.out)" \
-        -v w="$nodes" -v l="$lock" -v b="$begun" -v a="$(grep -c ' heard ' plain.out || :)" 'BEGIN {
+        -v w="$waits" -v l="$lock" -v b="$begun" -v a="$(grep -c ' heard ' plain.out || :)" 'BEGIN {
         printf "%s: one thread %.3f s, a thread a node %.3f s, %.2f times as fast, ", n, p, t, p / t
         printf "yardstick %.2f, part %.2f, ", m * p * 1e6 / s, s / (m * t * 1e6)
         printf "processors %.3f s and %.3f s, %.2f times as much, ", q, u, u / q
-        printf "%s sleeps for a node, %s at the lock, %s threads begun, %d samples, %d rows\n", w, l, b, a, r }'
+        printf "%s sleeps at samples, %s at the lock, %s threads begun, %d samples, %d rows\n", w, l, b, a, r }'
 }
 
 echo "$cores processors, ${2:-0} busy programs beside, load $(cut -d' ' -f1 /proc/loadavg)"
