@@ -13,6 +13,9 @@ set -eu -o pipefail
 cp "$top"/bench/ring.hex "$top"/bench/mixed.hex "$top"/bench/sleep.hex "$top"/bench/network/net.hex "$top"/bench/make0/* "$top"/examples/flood.hex "$work"
 cd "$work"
 turns=7
+# as where the launcher starts a run
+. <(sed -n '/^keep_stacks() {/,/^}/p' "$top/scripts/launcher.sh")
+keep_stacks
 cores=$(nproc)
 for ((k = 0; k < ${2:-0}; k++)); do (while :; do :; done) & done
 trap 'kill $(jobs -p) 2>/dev/null; rm -rf "$work"' EXIT
