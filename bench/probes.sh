@@ -1,12 +1,13 @@
 #!/usr/bin/env bash
 # How many host instructions an AVR instruction takes: bench/probes.sh [PROGRAM] counts them for small
-# programs, each of which does one thing (the table below), and compares them with the most that each may take. It
+# programs, each of which does one thing (the table below), and compares them with the most that each may take. It also
+# compares what two networks take by threads and on one thread, so that waiting which burns processors is told. It
 # proves nothing: PROGRAM is one that was built (without it, that of ./avrora, which proves it first). It takes under
 # four minutes, and says that it is skipped if valgrind is missing. Exit status: 0 all take no more, 1 one takes more
 # or fails.
 #
-# Counts hardly vary from run to run or from machine to machine. The most is a tenth above what was counted last; where a change
-# makes a count fall, lower its line.
+# Counts hardly vary from run to run or from machine to machine. The most is a tenth above what was counted last, and for
+# a network a twentieth; where a change makes a count fall, lower its line.
 . "$(dirname "$0")/help.sh"
 set -eu
 if ! command -v valgrind >/dev/null; then
@@ -110,16 +111,21 @@ count() {
     executed=$(awk 'END { print $(NF - 1) }' "$work/rows")
 }
 
+# HOST of a call with these words, in the folder of the run.
+host_of() {
+    (cd "$work" && valgrind --tool=callgrind --callgrind-out-file=/dev/null "$program" "$@" 2>&1 >/dev/null | awk '/Collected/ { print $4 }')
+}
+
 # HOST of `monitor` over all of so many cycles of the last probe's image.
 monitor() {
     printf 'cycles = %d\nnode = [{ image = "probe.hex" }]\n' "$1" >"$work/probe.toml"
-    (cd "$work" && valgrind --tool=callgrind --callgrind-out-file=/dev/null "$program" monitor probe.toml 0 "$1" 2>&1 >/dev/null | awk '/Collected/ { print $4 }')
+    host_of monitor probe.toml 0 "$1"
 }
 
 # HOST of a sweep of a sleeping node to which so many stretches of a byte come, in order, behind a state of 262,144 cycles.
 stretches() {
     awk -v n="$1" 'BEGIN { printf "0"; for (k = 0; k < n; k++) printf " %d 1 41", 262154 + 15 * k; print "" }' >"$work/moves"
-    (cd "$work" && valgrind --tool=callgrind --callgrind-out-file=/dev/null "$program" sweep probe.toml probe.state moves 2>&1 >/dev/null | awk '/Collected/ { print $4 }')
+    host_of sweep probe.toml probe.state moves
 }
 
 # over NAME COUNT MOST HOST: tells HOST for each of COUNT, at most MOST.
@@ -158,4 +164,11 @@ printf 'cycles = 524288\nnode = [{ image = "probe.hex" }]\n' >"$work/probe.toml"
 (cd "$work" && "$program" save probe.toml 1 >probe.state)
 h=$(stretches 1024)
 over "a stretch of 16,384" 15360 2908 "$(($(stretches 16384) - h))"
+
+# Under valgrind one thread runs at a time, so a thread that looks for the others instead of sleeping takes far more.
+cp "$top/bench/ring.hex" "$top/examples/flood.hex" "$work"
+network 8 ring 300000 "latency = 3072" "byte_time = 3072" >"$work/network.toml"
+over "ring of 8, run beside run --plain" "$(host_of run --plain network.toml)" 1.12 "$(host_of run network.toml)"
+network 8 flood 600000 "latency = 300" "byte_time = 1024" >"$work/network.toml"
+over "ring of 8 with flood, run beside run --plain" "$(host_of run --plain network.toml)" 1.10 "$(host_of run network.toml)"
 exit $status

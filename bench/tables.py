@@ -1,9 +1,9 @@
 #!/usr/bin/env python3
 """Writes the tables of docs/SPEED.md from what the scripts beside it printed.
 
-    bench/run.sh >run.out; bench/paths.py >paths.out; bench/networks.sh >networks.out; bench/threads.sh >threads0.out
-    bench/threads.sh PROGRAM 2 >threads2.out; bench/threads.sh PROGRAM 4 >threads4.out
-    bench/tables.py run.out paths.out networks.out threads*.out
+    bench/run.sh >run.out; bench/paths.py >paths.out; bench/networks.sh >networks.out
+    for k in 1 2 3; do bench/threads.sh PROGRAM >idle$k.out; bench/threads.sh PROGRAM 4 >busy$k.out; done
+    bench/tables.py run.out paths.out networks.out idle*.out busy*.out
 
 Each table stands between `<!-- table: bench/SCRIPT -->` and `<!-- end -->`; one of whose script no output is given stays as it
 is. Of several outputs of a script the table has the range of each figure. What an image or a network is stays as the table
@@ -20,7 +20,10 @@ HOST = re.compile(r"(\w+): ([\d.]+) host instructions an instruction")
 NETWORK = re.compile(r"(.+): \d+ cycles of nodes and (\d+) rows in (under )?([\d.]+) s: ([\d.]+) million cycles and ([\d.]+) .*, (\d+) KiB at most")
 BUSY = re.compile(r"\d+ processors, (\d+) busy programs beside, load .*")
 PATH = re.compile(r"([\d,]+) instructions: of one kind ([\d.]+) ns each, drawn ([\d.]+) ns(?:, simavr ([\d.]+) ns)?")
-THREADS = re.compile(r"(.+): one thread ([\d.]+) s, a thread a node ([\d.]+) s, ([\d.]+) times as fast, yardstick [\d.]+, part ([\d.]+), .* rows")
+THREADS = re.compile(
+    r"(.+): one thread ([\d.]+) s, a thread a node ([\d.]+) s, ([\d.]+) times as fast, .*, "
+    r"processors [\d.]+ s and [\d.]+ s, ([\d.]+) times as much, .* rows"
+)
 
 
 def span(values, digits, unit=""):
@@ -57,9 +60,10 @@ def path_cells(row):
 
 
 def threads_cells(row):
-    """On one thread, by threads, how many times as fast, the part; the same beside two and four busy programs, where measured."""
-    alone = [span(row["plain"], 2, " s"), span(row["threads"], 2, " s"), span(row["gain"], 1), span(row["part"], 2)]
-    return alone + [span(row[busy], 1) for busy in ("gain beside 2", "gain beside 4") if busy in row]
+    """On one thread, by threads, how many times as fast, how many times the processor time; the last two also beside four
+    busy programs, where measured."""
+    alone = [span(row["plain"], 2, " s"), span(row["threads"], 2, " s"), span(row["gain"], 1), span(row["cost"], 1)]
+    return alone + [span(row[it], 1) if it in row else "" for it in ("gain beside 4", "cost beside 4")]
 
 
 # The script of a table, how its cells are made, and how many cells before them say what the row is.
@@ -91,11 +95,12 @@ def read(paths):
         elif it := BUSY.fullmatch(line):
             busy = it[1]
         elif it := THREADS.fullmatch(line):
-            if busy != "0":
-                found["bench/threads.sh"].add(it[1], f"gain beside {busy}", it[4])
-                continue
-            for name, place in (("plain", 2), ("threads", 3), ("gain", 4), ("part", 5)):
-                found["bench/threads.sh"].add(it[1], name, it[place])
+            beside = "" if busy == "0" else f" beside {busy}"
+            found["bench/threads.sh"].add(it[1], f"gain{beside}", it[4])
+            found["bench/threads.sh"].add(it[1], f"cost{beside}", it[5])
+            if not beside:
+                found["bench/threads.sh"].add(it[1], "plain", it[2])
+                found["bench/threads.sh"].add(it[1], "threads", it[3])
     return found
 
 

@@ -22,7 +22,8 @@ grep -v '^//' "$PWD"/src/*.rt >"$out"
 echo "$name" >>"$FAKE_PROVED"
 """
 
-# The program that it links: it writes its words and its folder, or refuses an image, a scenario, or its words.
+# The program that it links: it writes its words and its folder, or what the C library is told; or it refuses an image, a
+# scenario, or its words.
 LINK = """#!/usr/bin/env bash
 while (($#)); do [[ $1 == -o ]] && out=$2; shift; done
 cat >"$out" <<'END'
@@ -31,6 +32,7 @@ case $1 in
     refused) echo 'avrora: a.hex: image refused: NoEnd' >&2; exit 5 ;;
     selflink) echo 'avrora: a.toml: scenario refused: SelfLink' >&2; exit 4 ;;
     bad) echo 'avrora: bad command line' >&2; exit 2 ;;
+    stacks) echo "${GLIBC_TUNABLES-}" ;;
     say) [[ -z $3 ]] || echo "$3" >&2; exit "$2" ;;
     long) exec -a "$0-long" sleep 3600 ;;
     *) echo "$* in ${PWD##*/}"; cat ;;

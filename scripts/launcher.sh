@@ -261,6 +261,13 @@ require_processor() {
     fi
 }
 
+# Has the C library keep the stacks of threads from one epoch of a run to the next (it would keep five of 8 MiB), unless
+# the user sets what it does. Where the address space has an end they would leave no room in it, and are not kept.
+keep_stacks() {
+    [[ -z ${GLIBC_TUNABLES+set} && $(ulimit -v) == unlimited ]] || return 0
+    export GLIBC_TUNABLES=glibc.pthread.stack_cache_size=$((1 << 30))
+}
+
 # Does what the words ask, and ends with the status of it: launch WORD ..
 launch() {
     local program said status line folder
@@ -291,6 +298,7 @@ launch() {
     own_words "$@"
     require_processor
     find_program
+    keep_stacks
     if [[ -t 2 ]] && said=$(mktemp); then
         trap "rm -f $(printf %q "$said")" EXIT
         run "$program" "$@" 2>"$said"

@@ -177,6 +177,17 @@ class FirstRun(OfARepository):
         self.assertEqual(run.returncode, 143)
         self.until(lambda: not self.left())
 
+    def test_stacks_of_threads_are_kept(self):
+        """Unless the user says what the C library does, or the address space has an end."""
+        self.environment.pop("GLIBC_TUNABLES", None)
+        self.assertEqual(self.ended("stacks")[:2], (0, f"glibc.pthread.stack_cache_size={2**30}\n"))
+        own = "glibc.malloc.arena_max=1"
+        self.assertEqual(self.ended("stacks", GLIBC_TUNABLES=own)[:2], (0, f"{own}\n"))
+        self.assertEqual(self.ended("stacks", GLIBC_TUNABLES="")[:2], (0, "\n"))
+        script = f"ulimit -v {2**22} && exec ./avrora stacks"
+        run = subprocess.run(["bash", "-c", script], cwd=self.top, env=self.environment, stdin=subprocess.DEVNULL, capture_output=True, text=True, check=False)
+        self.assertEqual((run.returncode, run.stdout), (0, "\n"))
+
     def test_what_stands_below_the_line(self):
         self.ended("run")
         self.assertEqual(self.ended("refused"), (5, "", "avrora: a.hex: image refused: NoEnd\n"))
