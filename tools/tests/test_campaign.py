@@ -292,7 +292,7 @@ def draw(number):
                 with self.assertRaisesRegex(BadInput, f"run 1: .*{sentence}"):
                     campaigns.read(f"{path}/c.toml").demand_draws(True)
         with folder(self.CAMPAIGN.replace("vary.number", "vary.seed")) as path:
-            with self.assertRaisesRegex(BadInput, "vary has number, and nothing else"):
+            with self.assertRaisesRegex(BadInput, "a drawn run can vary only number"):
                 campaigns.read(f"{path}/c.toml")
 
 

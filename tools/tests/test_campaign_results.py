@@ -169,7 +169,7 @@ class TheReport(unittest.TestCase):
                              [f"latency={latency}" for latency in (60, 50, 40, 30, 20)])  # fmt: skip
             self.assertIn("\nc: 5 runs, 4 passed, 1 failed\n", out)
             status, _, errors, _ = run_campaign(path, "--shard", "3/2")
-            self.assertEqual((status, "no part I/N" in errors), (2, True))
+            self.assertEqual((status, "is not a part I/N" in errors), (2, True))
 
 
 if __name__ == "__main__":

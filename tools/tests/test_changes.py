@@ -133,8 +133,8 @@ def test_where_a_condition_breaks(folder, stores):
 @pytest.mark.parametrize(
     "words, why",
     [
-        ([], "name what is to be watched"),
-        (["-w", "wide", "--breaks", "wide < 3"], "name what is to be watched"),
+        ([], "name what to watch"),
+        (["-w", "wide", "--breaks", "wide < 3"], "name what to watch"),
         (["-w", "nothing"], "no variable `nothing`"),
         (["-w", "OCR0"], "a device makes up"),
         (["-w", "wide", "--from", "9", "--until", "8"], "the run has the cycles 0 to 3,000"),
@@ -202,7 +202,7 @@ def test_conditions_that_a_run_breaks_are_told_with_who_wrote(folder, stores, st
         (["always ticks < 3"], "`always NODE CONDITION`"),
         (["within 4_000..: always 0 ticks < 3"], "the run ends in cycle 3000"),
         (["before 0: always 0 ticks < 3"], "no cycle comes before 0"),
-        (["never * * stop *"], "no condition is stated"),
+        (["never * * stop *"], "no condition uses its variables"),
         (["reaches 0 ticks == 0"], "`ticks == 0`: it holds at reset, where all memory is 0, so it cannot fail"),
         (["within ..2_000: reaches 0 !box.level && SREG.I == 0"], "it holds at reset"),
         (["before 9: reaches 0 ratio < 0.05"], "it holds at reset"),

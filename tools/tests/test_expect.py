@@ -284,7 +284,7 @@ class Refused(unittest.TestCase):
             ("golden", "golden is"),
             ("run", "after run stand 1"),
             ("node a.hex", "after node stand 2"),
-            ("only talked", "talked is not a kind"),
+            ("only talked", "talked is neither a kind"),
             ("only 64 sent", "nodes are 0 to 63"),
             ("within 0..9: golden x", "within"),
             ("count == 1: +5 0 sent *", "cycles are counted"),
@@ -435,7 +435,7 @@ class Refused(unittest.TestCase):
         for line, why in (
             ("never * 2 sent *", "line 1: the trace has no node 2, but nodes 0 to 1"),
             ("never * {0,2} sent *", "the trace has no node 2"),
-            ("only 0-2\ncount == 1: * 0 sent *", "`only` names node 2, and the trace has 2 nodes"),
+            ("only 0-2\ncount == 1: * 0 sent *", "`only` names node 2, but the trace has 2 nodes"),
             ("text 2 'a'", "the trace has no node 2"),
             ("never 99.. * sent *", "the trace ends in cycle 99"),
             ("never 100 * end *", "the trace ends in cycle 99"),
@@ -570,7 +570,7 @@ class Refused(unittest.TestCase):
 
     def test_nothing_expected(self):
         with scratch("case.expect", "run a.toml\n# only this\n") as path, self.assertRaisesRegex(
-            BadInput, "without an expectation"
+            BadInput, "the case has no expectation"
         ):
             expectations.read_case(path)
 

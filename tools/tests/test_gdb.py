@@ -360,7 +360,7 @@ def test_wrong_words_are_told(folder):
     )
     for text in (
         "the run has 737,280 cycles",
-        "x is not a cycle",
+        "x is neither a cycle nor a bookmark",
         "no word is called jump",
         "one of sent, heard",
         "7 is not a node",
@@ -391,7 +391,7 @@ def test_what_no_gdb_sends_is_an_error_and_no_end(past):
     before = one.motion.at
     for words in ("goto " + "9" * 5_000, "goto 1" + "_" * 5_000, "next sent of " + "9" * 5_000, "next sent of \u0663"):
         said = bytes.fromhex(one.answered(b"qRcmd," + words.encode().hex().encode()).decode()).decode()
-        assert "no cycle" in said or "no node" in said
+        assert "is neither a cycle" in said or "is not a node" in said
     assert one.motion.at == before
 
 
@@ -494,7 +494,7 @@ def test_a_long_continue_is_interrupted(folder):
 @needs_all
 @pytest.mark.parametrize(
     "words, said",
-    [(["--at", "737_281"], "the run has"), (["--node", "3"], "nodes 0 to 2"), (["--port", "70000"], "no port")],
+    [(["--at", "737_281"], "the run has"), (["--node", "3"], "nodes 0 to 2"), (["--port", "70000"], "is not a port")],
 )
 def test_bad_words_are_refused(folder, words, said):
     done = subprocess.run(

@@ -97,7 +97,7 @@ class Links(unittest.TestCase):
                 status, out, _ = self.links(TRACE.replace(right, wrong))
                 self.assertEqual(status, 1)
                 self.assertIn("1 of 5 samples and 7 sends are not as they should be", out)
-                self.assertIn(" is to be heard", out.splitlines()[0])
+                self.assertIn(" should be heard", out.splitlines()[0])
 
     def test_a_send_too_early(self):
         status, out, _ = self.links(TRACE.replace("1200 2 heard 0", "999 0 sent 42\n1200 2 heard 0"))

@@ -153,13 +153,13 @@ class Refused(unittest.TestCase):
 
     def test_other_lines(self):
         for lines, line, due in (
-            ([BUSY, "send 0 1"], 8, "a `send` or `end` is"),
-            ([BUSY, STOPPED.replace("core 1", "core 2")], 8, "`core 1` is"),
-            ([BUSY.replace("core 0 0", "core 0")], 3, "`core 0` and 41 numbers are"),
-            ([BUSY.replace("sram 0 48", "sram 0 4")], 7, "`sram 0` and 8192 digits are"),
+            ([BUSY, "send 0 1"], 8, "this line must be a `send` or `end`"),
+            ([BUSY, STOPPED.replace("core 1", "core 2")], 8, "`core 1` is due here"),
+            ([BUSY.replace("core 0 0", "core 0")], 3, "`core 0` and 41 numbers are due here"),
+            ([BUSY.replace("sram 0 48", "sram 0 4")], 7, "`sram 0` and 8192 digits are due here"),
         ):
             with self.subTest(due):
-                self.says(state(*lines), f"standard input, line {line}: no state: {due} due here")
+                self.says(state(*lines), f"standard input, line {line}: no state: {due}")
 
     def test_no_such_node(self):
         self.says(state(BUSY), "standard input: there is no node 1: the state has 1", "-n", "0-1")

@@ -21,6 +21,11 @@ class Parting:
     behind: Step | None  # the last use that both have, by the code that is interrupted
     ahead: Step | None  # the next use by that code in the failing run
 
+    def is_use_before_handler(self) -> bool:
+        """Whether the failing run has a use where the passing one has a handler or a clock: it stands between no uses."""
+        one, two = self.failing, self.passing
+        return one is not None and two is not None and isinstance(one.what, Use) and not isinstance(two.what, Use)
+
 
 def neighbours(cells: Sequence[Cell], failures: Mapping[Cell, str], failing: Cell) -> list[Cell]:
     """The nearest cells on both sides, of the same values before, that were run and pass; the nearer one first."""
@@ -59,9 +64,9 @@ def parting(
 
 def described(found: Parting, sharing: Sharing) -> str:
     """One line on where two runs part."""
-    what = step_text(found.failing, sharing)
-    if found.behind is None or found.ahead is None:
-        return f"{what}, where the run that passes has {step_text(found.passing, sharing)}"
+    what = f"{step_text(found.failing, sharing)} comes"
+    if found.is_use_before_handler() or found.behind is None or found.ahead is None:
+        return f"{what} where the run that passes has {step_text(found.passing, sharing)}"
     timer = found.failing.what.timer if found.failing and isinstance(found.failing.what, Clock) else None
     one, two = (thing_text(step.address, sharing, timer) for step in (found.behind, found.ahead))
     first, second = (line_text(step.address, sharing) for step in (found.behind, found.ahead))
@@ -82,12 +87,12 @@ def thing_text(address: int, sharing: Sharing, timer: int | None) -> str:
 
 def step_text(step: Step | None, sharing: Sharing) -> str:
     if step is None:
-        return "nothing more comes"
+        return "nothing more"
     if isinstance(step.what, Enter):
-        return f"`{vector_name(step.what.vector)}` comes"
+        return f"`{vector_name(step.what.vector)}`"
     if isinstance(step.what, Clock):
-        return f"the clock of timer {step.what.timer} comes"
-    return f"{line_text(step.address, sharing)} comes"
+        return f"the clock of timer {step.what.timer}"
+    return f"{thing_text(step.address, sharing, None)} at {line_text(step.address, sharing)}"
 
 
 def line_text(address: int, sharing: Sharing) -> str:

@@ -268,5 +268,5 @@ class Sweep:
             return None
         line = self.program.line_at(address)
         thing = self.sharing.watched.get(address) if self.sharing else None
-        name = f"`{thing}` " if thing and thing != SLEEP else "the sleep " if thing else ""
-        return f"{name}at {line} ({address:04X})" if line else f"{name}at {self.program.place(address)} ({address:04X})"
+        name = "" if not thing else "the sleep at " if thing == SLEEP else f"`{thing}` at "
+        return f"{name}{line or self.program.place(address)} ({address:04X})"

@@ -58,10 +58,10 @@ def shown_stretches(finding: Finding) -> str:
 
 def late_of(sweep: Sweep, finding: Finding) -> list[str]:
     late = sweep.late(finding)
-    if late is None:
+    if late is None or late.cycle < sweep.scenario.until:  # what came in time is not what the run lacks
         return []
     behind = late.cycle - sweep.scenario.until
-    found = [f"node {late.node} writes it in cycle {late.cycle:,}, {behind:,} behind the end of the run"]
+    found = [f"node {late.node} writes it in cycle {late.cycle:,} ({behind:,} behind the deadline)"]
     if late.wrong_at_last:
         found.append(f"a longer --until is no help: at {sweep.scenario.document['cycles']:,} {late.wrong_at_last}")
     return found
