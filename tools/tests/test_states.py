@@ -154,9 +154,9 @@ class Refused(unittest.TestCase):
     def test_other_lines(self):
         for lines, line, due in (
             ([BUSY, "send 0 1"], 8, "this line must be a `send` or `end`"),
-            ([BUSY, STOPPED.replace("core 1", "core 2")], 8, "`core 1` is due here"),
-            ([BUSY.replace("core 0 0", "core 0")], 3, "`core 0` and 41 numbers are due here"),
-            ([BUSY.replace("sram 0 48", "sram 0 4")], 7, "`sram 0` and 8192 digits are due here"),
+            ([BUSY, STOPPED.replace("core 1", "core 2")], 8, "this line must be `core 1`"),
+            ([BUSY.replace("core 0 0", "core 0")], 3, "this line must be `core 0` and 41 numbers"),
+            ([BUSY.replace("sram 0 48", "sram 0 4")], 7, "this line must be `sram 0` and 8192 digits"),
         ):
             with self.subTest(due):
                 self.says(state(*lines), f"standard input, line {line}: no state: {due}")
