@@ -12,6 +12,7 @@ import tomllib
 import lemmas
 
 ARCHITECTURE, CASES, PLACES = "docs/ARCHITECTURE.md", "docs/CASES.md", "scripts/places.toml"
+FORMS, TOP_CALL, FORMATS = "crates/command_words/src/command.rt", "crates/commands/src/alone.rt", "docs/FORMATS.md"
 ARGS, RUNNER, DATA = "crates/command_facts/args", "crates/command_facts/src/main.rt", "crates/command_facts/data/"
 
 SPAN = re.compile(r"`([^`\n]+)`")
@@ -23,6 +24,8 @@ SOURCE = r"`([\w./]+\.rt|\w+/specs/[\w/]+|[A-Z][\w/]+)`"
 OF = re.compile(r"`(\w+)`((?:, `\w+`)*) of " + SOURCE)
 BEHIND = re.compile(r"`(?:\w+::)*(\w+)` \(`([\w./]+\.rt)`")
 WITHIN = re.compile(SOURCE + r" \((?:[a-z ]+: )?(`\w+`(?:, `\w+`)*)\)")
+FORM = re.compile(r"^ */// `([a-z]+ [^`]+)`: ", re.M)
+FORM_ROW = re.compile(r"^(?:/// )?\| `([a-z]+ [^`]+)` \| ", re.M)
 CASE_WORD = re.compile(r"`(\w+)(=?)`")
 WILD = re.compile(r"[*?\[]")
 
@@ -205,6 +208,20 @@ def change_lists(repo):
     yield from within(repo)
 
 
+# The tables of commands.
+
+
+def forms(repo):
+    """Each form of a command has a row in the tables of commands, and the top call's table has no other."""
+    forms = FORM.findall(repo.text(FORMS))
+    if len(forms) < 20:
+        yield f"{FORMS}: it says only {len(forms)} forms"
+    for path in (TOP_CALL, FORMATS):
+        rows = FORM_ROW.findall(repo.text(path))
+        yield from (f"{path}: no row is `{it}`" for it in forms if it not in rows)
+    yield from (f"{TOP_CALL}: no form is `{it}`" for it in FORM_ROW.findall(repo.text(TOP_CALL)) if it not in forms)
+
+
 # The map of stored cases.
 
 
@@ -296,13 +313,13 @@ def idle_files(repo):
 
 
 # The searches come last, as they take longest.
-CHECKS = (change_lists, kinds, crate_map, idle_files, lemmas.indexes, places)
+CHECKS = (change_lists, forms, kinds, crate_map, idle_files, lemmas.indexes, places)
 
 
 def wrong_maps(top, paths):
     """What is wrong with the maps."""
     repo = Repository(top, paths)
-    missing = [it for it in (ARCHITECTURE, CASES, PLACES, ARGS, RUNNER) if it not in paths]
+    missing = [it for it in (ARCHITECTURE, CASES, PLACES, FORMS, TOP_CALL, FORMATS, ARGS, RUNNER) if it not in paths]
     if missing:
         return [f"{it}: it is not there" for it in missing]
     return [it for check in CHECKS for it in check(repo)]

@@ -11,7 +11,9 @@ import sys
 import tomllib
 
 from check_docs import TOP, tracked
-from doc_maps import ARCHITECTURE, ARGS, CASES, CHECKS, MOST_OTHERS, PLACES, RUNNER, Repository, places_of
+from doc_maps import (
+    ARCHITECTURE, ARGS, CASES, CHECKS, FORMATS, FORMS, MOST_OTHERS, PLACES, RUNNER, TOP_CALL, Repository, places_of,
+)
 
 INDEX = "crates/node_core/proofs/Lib.antt"
 
@@ -40,6 +42,10 @@ FAULTS = (
     (ARCHITECTURE, "`prescaler.rt`", "`line.rt`", "no crate that it names has line.rt"),
     (ARCHITECTURE, "| To change |", "| To alter |", "it has no table of changes"),
     (ARCHITECTURE, "` of `", "`, which is in `", "it names only"),
+    (TOP_CALL, "| `watch FILE FROM TO PLACES STATE` |", "| `watch FILE PLACES STATE` |", "no row is `watch FILE FROM TO PLACES STATE`"),
+    (TOP_CALL, "| `make NUMBER` |", "| `make NUMBER` | |\n/// | `made NUMBER` |", "no form is `made NUMBER`"),
+    (FORMATS, "| `monitor FILE FROM TO` |", "| `monitor FILE SPAN` |", "no row is `monitor FILE FROM TO`"),
+    (FORMS, "/// `look FILE CYCLE`: ", "/// `gaze FILE CYCLE`: ", "no row is `gaze FILE CYCLE`"),
     (CASES, "`timer8.txt`", "`timer9.txt`", "the stored run has no devices=timer9.txt"),
     (CASES, "`selects.txt`, ", "", "no crate has devices=selects.txt"),
     (CASES, "| `sniffs=`; ", "| `devices=`; ", "device_facts does not stand on air_sniffer"),

@@ -6,4 +6,6 @@ mod air;
 mod bounds;
 
 pub use air::{Ask, Heard, Sampled, Send};
-pub use bounds::{LAST_CYCLE, LAST_END, LONGEST_BYTE, SHORTEST_BYTE};
+pub use bounds::{
+    LAST_CYCLE, LAST_END, LAST_SHORT_CYCLE, LONGEST_BYTE, LONGEST_LATENCY, MOST_NODES, SHORTEST_BYTE,
+};

@@ -1,6 +1,8 @@
--- How a list of sends begins. A frame is the bytes AA, AA, 7E, n, and then n bytes, where n is from 1 to 32.
+-- How a list of sends begins. A frame is the bytes AA, AA, 7E, n, and then n bytes, where n is from 1 to
+-- `MOST_PAYLOAD`.
 use Rattle.std.specs.Prelude.{ℕ, ◌+◌, Bool, ◌&&◌, ◌||◌, not, nat_le, nat_lt, List, length, slice_index_or}
 use Rattle.air_base.specs.declared.air.Send.{Send}
+use Rattle.air_sniffer.specs.declared.frame.TheConstants.{MOST_PAYLOAD}
 
 abbrev pub no_send : Send
 no_send = record { node = 0; cycle = 0; byte = 0 }
@@ -15,7 +17,7 @@ fits l k least most = nat_le (length l) k || (nat_le least (send_at l k).byte &&
 
 -- the list begins as a frame does, as far as it goes
 unfoldable pub head_fits : List Send → Bool
-head_fits l = fits l 0 0xAA 0xAA && fits l 1 0xAA 0xAA && fits l 2 0x7E 0x7E && fits l 3 1 32
+head_fits l = fits l 0 0xAA 0xAA && fits l 1 0xAA 0xAA && fits l 2 0x7E 0x7E && fits l 3 1 MOST_PAYLOAD
 
 -- the frame whose head begins the list has all of its bytes there
 unfoldable pub is_whole : List Send → Bool

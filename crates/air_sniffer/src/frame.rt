@@ -3,10 +3,13 @@ use air_base::Send;
 use arrayvec::ArrayVec;
 use std::marker::Model;
 
-/// The payload of a frame: its bytes, at most 32.
+/// The most bytes of a payload.
+pub const MOST_PAYLOAD: usize = 32;
+
+/// The payload of a frame: its bytes.
 #[derive(Drop)]
 pub struct Payload {
-    bytes: ArrayVec<u8, 32>,
+    bytes: ArrayVec<u8, MOST_PAYLOAD>,
 }
 
 impl Model for Payload {
@@ -19,10 +22,11 @@ impl Model for Payload {
 
 impl Payload {
     ghost use Rattle.std.specs.Prelude.{◌≡◌, ◌≤◌, length, map};
+    ghost use Rattle.air_sniffer.specs.declared.frame.TheConstants.{MOST_PAYLOAD};
 
     /// The bytes that these sends carry.
     pub(crate) fn of(sends: &[Send]) -> Payload
-        requires { length sends.now ≤ 32 }
+        requires { length sends.now ≤ MOST_PAYLOAD }
         ensures { result ≡ map (λ x. x.byte) sends.now }
     {
         let mut bytes = ArrayVec::new();

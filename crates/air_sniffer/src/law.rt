@@ -2,6 +2,7 @@
 ghost use Rattle.std.specs.Prelude.{◌≡◌, ℕ, ◌≤◌, ◌+◌, [], ◌∷◌, ◌++◌, List, true, false, drop, length};
 ghost use Rattle.world_core.specs.Sends.{sends_of};
 ghost use Rattle.air_base.specs.declared.air.Send.{Send};
+ghost use Rattle.air_sniffer.specs.declared.scan.TheConstants.{MOST_OPEN};
 ghost use Rattle.air_sniffer.specs.Head.{send_at, begins_frame, is_open};
 ghost use Rattle.air_sniffer.specs.Frames.{frame_of, frames};
 ghost use Rattle.air_sniffer.specs.declared.frame.Frame.{Frame};
@@ -21,7 +22,7 @@ pub fn open_law()
     ensures none { (l : List Send) → is_open l ≡ true → begins_frame l ≡ false }
     ensures some { (l : List Send) → is_open l ≡ true → (m : List Send) × (begins_frame (l ++ m) ≡ true) }
     ensures same { (l m : List Send) → is_open l ≡ false → begins_frame (l ++ m) ≡ begins_frame l }
-    ensures short { (l : List Send) → is_open l ≡ true → length l ≤ 35 }
+    ensures short { (l : List Send) → is_open l ≡ true → length l ≤ MOST_OPEN }
 {}
 
 /// Whatever comes behind a list of sends: its sure frames are the first ones, and its open part is all that has to be
@@ -30,7 +31,7 @@ pub fn cut_law()
     ensures frames { (l m : List Send) → frames (l ++ m) ≡ sure l ++ frames (open_part l ++ m) }
     ensures sure { (l m : List Send) → sure (l ++ m) ≡ sure l ++ sure (open_part l ++ m) }
     ensures rest { (l m : List Send) → open_part (l ++ m) ≡ open_part (open_part l ++ m) }
-    ensures short { (l : List Send) → length (open_part l) ≤ 35 }
+    ensures short { (l : List Send) → length (open_part l) ≤ MOST_OPEN }
 {}
 
 /// How a caller goes on: nothing was fed at first; a piece that is fed, and the frames that it gives, go behind what

@@ -9,6 +9,7 @@ mod law;
 mod scan;
 mod sniffer;
 
-pub use frame::{Frame, Payload};
+pub use frame::{Frame, MOST_PAYLOAD, Payload};
 pub use law::{cut_law, fed_law, frames_law, open_law, pieces_law};
+pub use scan::MOST_OPEN;
 pub use sniffer::Sniffer;

@@ -3,9 +3,13 @@ ghost use Rattle.std.specs.Prelude.{◌≡◌, ◌≤◌, ◌<◌, ◌++◌, tru
 ghost use Rattle.air_sniffer.specs.Head.{fits, head_fits, is_whole, is_open, begins_frame};
 ghost use Rattle.air_sniffer.specs.Frames.{frame_of, begun, passed};
 
+use crate::frame::MOST_PAYLOAD;
 use crate::{Frame, Payload};
 use air_base::Send;
 use std::alloc::AllocError;
+
+/// The most sends that may still become a frame: its head, and all of its payload except the last byte.
+pub const MOST_OPEN: usize = 3 + MOST_PAYLOAD;
 
 // Whether the byte at this place is one of these, if there is one.
 fn fits(sends: &[Send], place: usize, least: u8, most: u8) -> bool
@@ -22,7 +26,7 @@ fn head_fits(sends: &[Send]) -> bool
     fits(sends, 0, 0xAA, 0xAA)
         && fits(sends, 1, 0xAA, 0xAA)
         && fits(sends, 2, 0x7E, 0x7E)
-        && fits(sends, 3, 1, 32)
+        && fits(sends, 3, 1, MOST_PAYLOAD as u8)
 }
 
 // Whether a list that begins as a frame does has all of its bytes.

@@ -5,13 +5,14 @@ ghost use Rattle.air_sniffer.specs.Frames.{frames};
 ghost use Rattle.air_sniffer.specs.Sniffed.{sure, open_part};
 
 use crate::Frame;
-use crate::scan::{is_open, step};
+use crate::scan::{MOST_OPEN, is_open, step};
 use air_base::Send;
 use std::alloc::{AllocError, Global};
 use std::marker::Model;
 use world_core::NoMemory;
 
-/// A sniffer of what one node sends. It holds the sends that may still become a frame, which are at most 35.
+/// A sniffer of what one node sends. It holds the sends that may still become a frame, which are at most
+/// `MOST_OPEN`.
 #[derive(Drop)]
 pub struct Sniffer {
     alloc: Global,
@@ -21,13 +22,14 @@ pub struct Sniffer {
 
 impl Model for Sniffer {
     ghost use Rattle.std.specs.Prelude.{◌≤◌, length, vec_capacity};
+    ghost use Rattle.air_sniffer.specs.declared.scan.TheConstants.{MOST_OPEN};
     ghost use Rattle.air_sniffer.specs.Sniffed.{SnifferFacts};
 
     ghost Value = { SnifferFacts };
 
     ghost view = { λ s. record { node = s.node; held = s.held.items } };
 
-    ghost invariant = { λ s. (length s.held.items ≤ 35) × (35 ≤ vec_capacity s.held) };
+    ghost invariant = { λ s. (length s.held.items ≤ MOST_OPEN) × (MOST_OPEN ≤ vec_capacity s.held) };
 }
 
 // The sends held, and behind them those of the node.
@@ -86,6 +88,7 @@ fn all_frames(alloc: Global, sends: &[Send]) -> Result<Vec<Frame>, AllocError>
 
 impl Sniffer {
     ghost use Rattle.std.specs.Prelude.{◌≡◌, ◌≤◌, [], length, IfOk, OnOk, OnErr};
+    ghost use Rattle.air_sniffer.specs.declared.scan.TheConstants.{MOST_OPEN};
     ghost use Rattle.air_sniffer.specs.Frames.{frames};
     ghost use Rattle.air_sniffer.specs.Sniffed.{sure, sniffer_of, line_of, fed};
 
@@ -96,7 +99,7 @@ impl Sniffer {
         Ok(Sniffer {
             alloc,
             node,
-            held: Vec::with_capacity(alloc, 35)?,
+            held: Vec::with_capacity(alloc, MOST_OPEN)?,
         })
     }
 
@@ -107,7 +110,7 @@ impl Sniffer {
         ensures frames { IfOk result (λ v. v.items ≡ sure (line_of self.old sends.now)) }
         ensures held { OnOk result (self.new ≡ fed self.old sends.now) }
         ensures same { OnErr result (self.new ≡ self.old) }
-        ensures bound { length self.new.held ≤ 35 }
+        ensures bound { length self.new.held ≤ MOST_OPEN }
     {
         let line = joined(self.alloc, &self.held, self.node, sends)?;
         let (frames, at) = sure_frames(self.alloc, &line)?;

@@ -20,6 +20,7 @@ use std::alloc::Global;
 /// | `run FILE` | the trace of the network of the scenario in FILE, in the single global order of cycles |
 /// | `run --plain FILE` | the trace of that network, which is run on one thread |
 /// | `monitor FILE` | on what each node of that network spent each cycle of the window, and its charge |
+/// | `monitor FILE FROM TO` | the same of the cycles from FROM on, below TO, in place of the window |
 /// | `sniff FILE` | the frames that each node of that network sends |
 /// | `check FILE` | how many nodes, links and cycles the network of the scenario in FILE has; it is not run |
 /// | `disasm FILE` | the address and the text of each instruction of the image in FILE, a line each |
@@ -31,15 +32,20 @@ use std::alloc::Global;
 /// | `head FILE N STATE` | the trace of N epochs of that network from the state in STATE on |
 /// | `save FILE N STATE` | the state in which it is then |
 /// | `look FILE CYCLE STATE` | the state in which it is as cycle CYCLE begins |
-/// | `sweep FILE STATE MOVES` | one behind another, the traces from the state in STATE on of that network, one for each line of MOVES, with the input that it says |
+/// | `sweep FILE STATE MOVES` | for each line of MOVES the trace of that network from the state in STATE on, with its input |
+/// | `watch FILE FROM TO PLACES` | what is seen at PLACES in that network in the cycles from FROM on, below TO |
+/// | `watch FILE FROM TO PLACES STATE` | the same from the state in STATE on |
+/// | `watch FILE FROM TO PLACES STATE MOVES` | the same once for each line of MOVES |
 /// | `make NUMBER` | what came out of the sample network of NUMBER: how often its nodes sent, and what they heard |
 ///
-/// `node` has no links and no input, and runs over CYCLES cycles; `monitor` runs up to the window's end.
+/// `node` has no links and no input, and runs over CYCLES cycles; `monitor` runs up to the window's end,
+/// or up to TO.
 ///
-/// FILE is a word that is not empty and does not begin with `-`; CYCLES is one to eight digits, 1 to 10,000,000; NUMBER
-/// is one to five, up to 65,535; N is one to seven, 1 or more; CYCLE is one to thirteen, up to 2^40. All other words are `BadWords`. Where the answer is not
-/// `Done`, `err` has one line that says why, or the write of that line failed and the answer is `SinkFailed`. A node
-/// that stops is no fault.
+/// FILE, STATE, MOVES and PLACES are words that are not empty and do not begin with `-`; CYCLES is one to eight digits,
+/// 1 to 10,000,000; NUMBER is one to five, up to 65,535; N is one to seven, 1 or more; FROM, TO and CYCLE are one to
+/// thirteen, up to 2^40, and FROM is not above TO. All other words are `BadWords`. Where the answer is not `Done`, `err`
+/// has one line that says why, or the write of that line failed and the answer is `SinkFailed`. A node that stops is no
+/// fault.
 pub fn avrora_alone<'w, S: Store, O: Sink, E: Sink>(
     alloc: Global,
     words: &'w [&'w str],

@@ -88,7 +88,7 @@ pub struct Cpu {
 
 impl Cpu {
     ghost use Rattle.std.specs.Prelude.{slice_index};
-    ghost use Rattle.data_space.specs.Core.{pair_at, with_reg, zero_cpu};
+    ghost use Rattle.data_space.specs.Core.{with_reg, zero_cpu};
 
     /// The core after reset: all registers, SREG, the stack pointer, the program counter and RAMPZ are 0.
     pub fn new() -> Self
@@ -117,14 +117,6 @@ impl Cpu {
         ensures { self.new ≡ with_reg d value self.old }
     {
         self.r[usize::from(d.get())] = value;
-    }
-
-    /// The word in the pair of register `d`, which has its low byte, and of the register above (r0 above r31).
-    #[inline]
-    pub fn pair(&self, d: Reg) -> u16
-        ensures { result ≡ pair_at d self.now }
-    {
-        u16::from(self.reg(d)) + 256 * u16::from(self.reg(above(d)))
     }
 
     /// The two parts.

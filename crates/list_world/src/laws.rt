@@ -4,7 +4,7 @@ ghost use Rattle.world_core.specs.FirstFault.{AllKeep, IsFirstFault};
 ghost use Rattle.world_core.specs.Topology.{IsInside};
 ghost use Rattle.world_core.specs.Lawful.{IsNextSend, IsNextAsk};
 
-use air_base::{Ask, Send};
+use air_base::{Ask, MOST_NODES, Send};
 use world_core::Topo;
 
 // Whether an entry of this node may come in this cycle, where `free` is the cycle from which on each node may have one.
@@ -20,7 +20,7 @@ pub fn send_fault(topo: &Topo, sends: &[Send]) -> Option<usize>
     ensures { MatchOption result (AllKeep (IsNextSend topo.now) sends.now) (IsFirstFault (IsNextSend topo.now) sends.now) }
 {
     let gap = topo.byte_time();
-    let mut free = [0u64; 64];
+    let mut free = [0u64; MOST_NODES as usize];
     for (place, send) in sends.iter().enumerate() {
         if !may_come(topo, &free, send.node, send.cycle) {
             return Some(place);
@@ -36,7 +36,7 @@ pub fn ask_fault(topo: &Topo, asks: &[Ask]) -> Option<usize>
 {
     // The call's clause says that the topology is lawful, so that each node has its place in `free`.
     let _nodes = topo.nodes();
-    let mut free = [0u64; 64];
+    let mut free = [0u64; MOST_NODES as usize];
     for (place, ask) in asks.iter().enumerate() {
         if !may_come(topo, &free, ask.node, ask.cycle) {
             return Some(place);

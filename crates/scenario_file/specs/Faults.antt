@@ -5,6 +5,7 @@ use Rattle.std.specs.Str.{is_utf8}
 use Rattle.std.specs.List.{list_any, list_all, count_by}
 use Rattle.toml.specs.Data.{Data, Members}
 use Rattle.toml.specs.Parse.{parse_document}
+use Rattle.air_base.specs.declared.bounds.TheConstants.{MOST_NODES}
 use Rattle.world_core.specs.declared.link_table.Link.{Link}
 use Rattle.scenario_file.specs.Document.{keys_in, elements, on_table, on_array, at_key, members_of, number_at}
 use Rattle.scenario_file.specs.Rules.{version_of, is_known, lacks_key, has_kinds, has_ranges, amount, most_amount}
@@ -112,7 +113,7 @@ early_tests ms =
     ∷ (not (right_kinds ms), WrongKind)
     ∷ (not (in_range (version_of ms) ms), OutOfRange)
     ∷ (length (nodes ms) == 0, NoNodes)
-    ∷ (nat_lt 64 (length (nodes ms)), TooManyNodes)
+    ∷ (nat_lt MOST_NODES (length (nodes ms)), TooManyNodes)
     ∷ (any_self_link (links ms), SelfLink)
     ∷ []
 

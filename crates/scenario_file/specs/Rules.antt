@@ -3,7 +3,9 @@
 -- simulator.
 use Rattle.std.specs.Prelude.{ℕ, ℤ, ◌-◌, ◌/◌, ◌%◌, ◌==◌, ◌&&◌, ◌||◌, nat_lt, nat_le, length, Bool, true, false, not, List, [], ◌∷◌, Option, Some, None, codes, if◌then◌else◌}
 use Rattle.air_base.specs.Bounds.{LAST_CYCLE}
-use Rattle.air_base.specs.declared.bounds.TheConstants.{LONGEST_BYTE, SHORTEST_BYTE}
+use Rattle.air_base.specs.declared.bounds.TheConstants.{LAST_SHORT_CYCLE, LONGEST_BYTE, LONGEST_LATENCY, SHORTEST_BYTE}
+use Rattle.serial_ports.specs.declared.stretch.TheConstants.{LONGEST_EVERY, MOST_ARRIVALS}
+use Rattle.world_core.specs.declared.spans.TheConstants.{MOST_SPANS}
 use Rattle.std.specs.List.{list_all, list_any}
 use Rattle.std.specs.Option.{option_map_or}
 use Rattle.std.specs.Char.{is_ascii_hexdigit}
@@ -32,8 +34,8 @@ version_of ms = version_in (get_member (codes "version") ms)
 
 -- from version 3 on a run may be long
 abbrev pub most_cycles : Version → ℕ
-most_cycles First = 10000000
-most_cycles Second = 10000000
+most_cycles First = LAST_SHORT_CYCLE
+most_cycles Second = LAST_SHORT_CYCLE
 most_cycles Third = LAST_CYCLE
 
 -- ---- the keys that a table may have
@@ -151,15 +153,15 @@ passes (Window cycles) = is_window cycles
 passes Spans = on_array are_spans
 
 abbrev pub has_top_ranges : Version → Members → Bool
-has_top_ranges version ms = at_key (fits 1 3) (codes "version") ms && at_key (fits 1 (most_cycles version)) (codes "cycles") ms && at_key (fits 1 65535) (codes "latency") ms
+has_top_ranges version ms = at_key (fits 1 3) (codes "version") ms && at_key (fits 1 (most_cycles version)) (codes "cycles") ms && at_key (fits 1 LONGEST_LATENCY) (codes "latency") ms
     && at_key (fits SHORTEST_BYTE LONGEST_BYTE) (codes "byte_time") ms && has_window ms
 
 -- in a text of this version and of so many nodes
 abbrev pub has_ranges : Version → ℕ → Keys → Members → Bool
 has_ranges version count Top ms = has_top_ranges version ms
 has_ranges version count OfNode ms = at_key is_name (codes "image") ms
-has_ranges version count OfLink ms = at_key (is_node count) (codes "from") ms && at_key (is_node count) (codes "to") ms && at_key (fits 1 65535) (codes "latency") ms && at_key (on_array are_spans) (codes "open") ms
-has_ranges version count OfInput ms = at_key (is_node count) (codes "node") ms && at_key (fits 0 LAST_CYCLE) (codes "at") ms && at_key (fits 1 65535) (codes "every") ms && at_key is_hex (codes "hex") ms
+has_ranges version count OfLink ms = at_key (is_node count) (codes "from") ms && at_key (is_node count) (codes "to") ms && at_key (fits 1 LONGEST_LATENCY) (codes "latency") ms && at_key (on_array are_spans) (codes "open") ms
+has_ranges version count OfInput ms = at_key (is_node count) (codes "node") ms && at_key (fits 0 LAST_CYCLE) (codes "at") ms && at_key (fits 1 LONGEST_EVERY) (codes "every") ms && at_key is_hex (codes "hex") ms
 
 -- ---- what is bounded over all tables of a kind together: the spans of links, and the bytes of scripts
 abbrev pub amount : Keys → Members → ℕ
@@ -171,5 +173,5 @@ amount OfInput ms = length (text_at (codes "hex") ms) / 2
 abbrev pub most_amount : Keys → ℕ
 most_amount Top = 0
 most_amount OfNode = 0
-most_amount OfLink = 4096
-most_amount OfInput = 65536
+most_amount OfLink = MOST_SPANS
+most_amount OfInput = MOST_ARRIVALS

@@ -5,9 +5,11 @@ use Rattle.hex.specs.Hex.{decode_of}
 use Rattle.hex.specs.declared.error.FromHexError.{FromHexError}
 use Rattle.world_core.specs.declared.spans.Span.{Span}
 use Rattle.world_core.specs.Topology.{Topology, topology}
+use Rattle.serial_ports.specs.declared.stretch.TheConstants.{MOST_ARRIVALS}
 use Rattle.serial_ports.specs.Script.{ScriptBytes, StretchBytes}
 use Rattle.scenario_file.specs.Document.{elements, members_of, number_at, text_at, pair_of, pair_or, pair_at}
 use Rattle.scenario_file.specs.Faults.{nodes, links, inputs, link_of, node_of, document_of, document_fault}
+use Rattle.scenario_file.specs.declared.defaults.TheConstants.{BYTE_TIME, EVERY, LATENCY}
 use Rattle.scenario_file.specs.declared.fault.ScenarioFault.{ScenarioFault}
 use Rattle.scenario_file.specs.declared.fault.ScenarioFault.TheVariants.{NotToml}
 
@@ -42,8 +44,8 @@ spans_from place (d ∷ ds) = spans_at place d ++ spans_from (place + 1) ds
 
 unfoldable pub topology_of : Members → Topology
 topology_of ms =
-    let latency = number_at (codes "latency") 3072 ms in
-    topology (length (nodes ms)) (number_at (codes "cycles") 0 ms) latency (number_at (codes "byte_time") 3072 ms) (map link_of (links ms)) (map (latency_of latency) (links ms)) (spans_from 0 (links ms))
+    let latency = number_at (codes "latency") LATENCY ms in
+    topology (length (nodes ms)) (number_at (codes "cycles") 0 ms) latency (number_at (codes "byte_time") BYTE_TIME ms) (map link_of (links ms)) (map (latency_of latency) (links ms)) (spans_from 0 (links ms))
 
 -- ---- an input
 abbrev pub bytes_or : Result (List ℕ) FromHexError → List ℕ
@@ -55,7 +57,7 @@ abbrev pub bytes_in : List ℕ → List ℕ
 bytes_in text = bytes_or (decode_of text)
 
 abbrev stretch_in : Members → StretchBytes
-stretch_in ms = record { at = number_at (codes "at") 0 ms; every = number_at (codes "every") 7680 ms; bytes = bytes_in (text_at (codes "hex") ms) }
+stretch_in ms = record { at = number_at (codes "at") 0 ms; every = number_at (codes "every") EVERY ms; bytes = bytes_in (text_at (codes "hex") ms) }
 
 abbrev pub script_in : Members → ScriptBytes
 script_in ms = record { stretches = stretch_in ms ∷ [] }
@@ -109,7 +111,7 @@ script_size s = sum (map stretch_size s.stretches)
 pub record IsScenario (p : ScenarioParts) : Type 0 where
   pub images : length p.images ≡ p.topology.nodes
   pub scripts : length p.scripts ≡ p.topology.nodes
-  pub few_bytes : sum (map script_size p.scripts) ≤ 65536
+  pub few_bytes : sum (map script_size p.scripts) ≤ MOST_ARRIVALS
   pub window : p.window.0 ≤ p.window.1
   pub within : p.window.1 ≤ p.topology.limit
   pub narrow : p.window.1 - p.window.0 ≤ 20000

@@ -7,7 +7,9 @@ ghost use Rattle.scenario_file.specs.Faults.{amount_of, is_few, in_range};
 use crate::document::{elements, elements_in, node_count, text_in};
 use crate::keys::{Keys, Version};
 use crate::rules::Rule;
+use serial_ports::MOST_ARRIVALS;
 use toml::{Table, Value};
+use world_core::MOST_SPANS;
 
 // What is counted of a table: the spans of a link, the bytes of an input's script.
 #[tactic(auto, using(crate::proofs::Lists::length_map))]
@@ -26,8 +28,8 @@ fn most_amount(keys: Keys) -> u64
 {
     match keys {
         Keys::Top | Keys::OfNode => 0,
-        Keys::OfLink => 4_096,
-        Keys::OfInput => 65_536,
+        Keys::OfLink => MOST_SPANS as u64,
+        Keys::OfInput => MOST_ARRIVALS as u64,
     }
 }
 

@@ -11,8 +11,12 @@ use crate::inputs::any_twice;
 use crate::keys::{Version, version_of};
 use crate::links::{any_self_link, any_twice_linked};
 use crate::rules::{Rule, right_kinds};
+use air_base::MOST_NODES;
 use std::alloc::{AllocError, Global};
 use toml::Table;
+
+// The most nodes, as they are counted here.
+const MOST: u64 = MOST_NODES as u64;
 
 // The lowest of the faults 2 to 8.
 #[tactic(auto, unfolding(crate::specs::Faults::early_tests), using(crate::proofs::Held::unknown_is, crate::proofs::Held::missing_is))]
@@ -31,7 +35,7 @@ fn early_fault(version: Version, table: &Table) -> Option<ScenarioFault>
         Some(ScenarioFault::OutOfRange)
     } else if count == 0 {
         Some(ScenarioFault::NoNodes)
-    } else if count > 64 {
+    } else if count > MOST {
         Some(ScenarioFault::TooManyNodes)
     } else if any_self_link(elements(table, "link")) {
         Some(ScenarioFault::SelfLink)

@@ -2,6 +2,7 @@
 ghost use Rattle.std.specs.Prelude.{◌≡◌, ◌==◌, ◌/◌, ◌≤◌, true, map, length, IfOk};
 ghost use Rattle.std.specs.List.{count_by};
 ghost use Rattle.toml.specs.View.{view, table_view};
+ghost use Rattle.serial_ports.specs.declared.stretch.TheConstants.{MOST_ARRIVALS};
 ghost use Rattle.scenario_file.specs.Document.{on_table, members_of, text_at};
 ghost use Rattle.scenario_file.specs.Rules.{has_ranges};
 ghost use Rattle.scenario_file.specs.Faults.{all_in_range, amount_of, is_few, any_twice};
@@ -57,7 +58,7 @@ fn script_of(
     value: &Value,
 ) -> Result<Script, AllocError>
     requires fits { on_table (has_ranges version count OfInput) (view value.now) ≡ true }
-    requires few { amount_of OfInput (view value.now) ≤ 65536 }
+    requires few { amount_of OfInput (view value.now) ≤ MOST_ARRIVALS }
     ensures { IfOk result (λ script. script ≡ script_of (view value.now)) }
 {
     let bytes = bytes_in(alloc, text_in(value, "hex"))?;

@@ -4,7 +4,7 @@ ghost use Rattle.toml.specs.View.{table_view};
 ghost use Rattle.scenario_file.specs.Rules.{version_of, most_cycles, is_known};
 
 use crate::document::number_at;
-use air_base::LAST_CYCLE;
+use air_base::{LAST_CYCLE, LAST_SHORT_CYCLE};
 use toml::Table;
 
 /// The kind of a table.
@@ -41,7 +41,7 @@ pub fn most_cycles(version: Version) -> u64
     ensures { result ≡ most_cycles version }
 {
     match version {
-        Version::First | Version::Second => 10_000_000,
+        Version::First | Version::Second => LAST_SHORT_CYCLE,
         Version::Third => LAST_CYCLE,
     }
 }

@@ -1,6 +1,8 @@
 // Links: their ends, their latencies and their spans.
 ghost use Rattle.std.specs.Prelude.{◌≡◌, ◌≤◌, ◌++◌, true, None, map, length, IfOk, OnOk};
 ghost use Rattle.toml.specs.View.{view, table_view};
+ghost use Rattle.air_base.specs.declared.bounds.TheConstants.{MOST_NODES};
+ghost use Rattle.world_core.specs.declared.spans.TheConstants.{MOST_SPANS};
 ghost use Rattle.scenario_file.specs.Document.{on_table};
 ghost use Rattle.scenario_file.specs.Rules.{has_ranges, version_of};
 ghost use Rattle.scenario_file.specs.Faults.{all_in_range, links, link_of, goes_to_itself, any_self_link, two_equal, first_of, early_tests};
@@ -30,7 +32,7 @@ pub fn any_self_link(values: &[Value]) -> bool
 
 fn link_of(version: Version, count: u64, value: &Value) -> Link
     requires fits { on_table (has_ranges version count OfLink) (view value.now) ≡ true }
-    requires few { count ≤ 64 }
+    requires few { count ≤ MOST_NODES }
     ensures { result ≡ link_of (view value.now) }
 {
     let from = number_in(value, "from", 0);
@@ -49,7 +51,7 @@ pub fn links_of(
     values: &[Value],
 ) -> Result<Vec<Link>, AllocError>
     requires fits { all_in_range version count OfLink (map view values.now) ≡ true }
-    requires few { count ≤ 64 }
+    requires few { count ≤ MOST_NODES }
     ensures { IfOk result (λ links. links.items ≡ map link_of (map view values.now)) }
 {
     let mut links = Vec::new(alloc);
@@ -96,7 +98,7 @@ fn push_spans(spans: &mut Vec<Span>, place: u32, values: &[Value]) -> Result<(),
 
 /// The spans of all links, in the order of the links.
 pub fn spans_of(alloc: Global, values: &[Value]) -> Result<Vec<Span>, AllocError>
-    requires { length values.now ≤ 4096 }
+    requires { length values.now ≤ MOST_SPANS }
     ensures { IfOk result (λ spans. spans.items ≡ spans_from 0 (map view values.now)) }
 {
     let mut spans = Vec::new(alloc);

@@ -10,7 +10,8 @@ ghost use Rattle.scenario_file.specs.Holds.{holds, holds_of, holds_of_all, holds
 use crate::asked::{Asked, passes_at};
 use crate::document::{elements, has_key, member, number_at};
 use crate::keys::{Keys, Version, is_known, most_cycles};
-use air_base::{LAST_CYCLE, LONGEST_BYTE, SHORTEST_BYTE};
+use air_base::{LAST_CYCLE, LONGEST_BYTE, LONGEST_LATENCY, SHORTEST_BYTE};
+use serial_ports::LONGEST_EVERY;
 use toml::{Table, Value};
 
 fn has_unknown_key(version: Version, keys: Keys, table: &Table) -> bool
@@ -66,7 +67,7 @@ fn has_top_ranges(version: Version, table: &Table) -> bool
     let cycles = number_at(table, "cycles", 0);
     passes_at(table, "version", Asked::Between(1, 3))
         & passes_at(table, "cycles", Asked::Between(1, most_cycles(version)))
-        & passes_at(table, "latency", Asked::Between(1, 65_535))
+        & passes_at(table, "latency", Asked::Between(1, LONGEST_LATENCY))
         & passes_at(
             table,
             "byte_time",
@@ -84,13 +85,13 @@ fn has_ranges(version: Version, count: u64, keys: Keys, table: &Table) -> bool
         Keys::OfLink => {
             passes_at(table, "from", Asked::Node(count))
                 & passes_at(table, "to", Asked::Node(count))
-                & passes_at(table, "latency", Asked::Between(1, 65_535))
+                & passes_at(table, "latency", Asked::Between(1, LONGEST_LATENCY))
                 & passes_at(table, "open", Asked::Spans)
         }
         Keys::OfInput => {
             passes_at(table, "node", Asked::Node(count))
                 & passes_at(table, "at", Asked::Between(0, LAST_CYCLE))
-                & passes_at(table, "every", Asked::Between(1, 65_535))
+                & passes_at(table, "every", Asked::Between(1, LONGEST_EVERY))
                 & passes_at(table, "hex", Asked::Hex)
         }
     }

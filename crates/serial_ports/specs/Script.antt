@@ -2,6 +2,7 @@
 -- to this simulator.
 use Rattle.std.specs.Prelude.{◌≡◌, ℕ, ◌+◌, ◌-◌, ◌*◌, ◌/◌, ◌%◌, ◌<◌, ◌≤◌, ◌==◌, ◌&&◌, nat_le, if◌then◌else◌, List, [], ◌∷◌, length, Option, Some, None, slice_get, is_some, true}
 use Rattle.air_base.specs.Bounds.{LAST_CYCLE}
+use Rattle.serial_ports.specs.declared.stretch.TheConstants.{LONGEST_EVERY, MOST_ARRIVALS}
 use Rattle.std.specs.Option.{option_or}
 
 -- ---- a stretch: byte i arrives in cycle at + i * every
@@ -13,8 +14,8 @@ pub record StretchBytes : Type 0 where
 pub record IsStretch (s : StretchBytes) : Type 0 where
   pub at : s.at ≤ LAST_CYCLE
   pub some : 1 ≤ s.every
-  pub every : s.every ≤ 65535
-  pub few : length s.bytes ≤ 65536
+  pub every : s.every ≤ LONGEST_EVERY
+  pub few : length s.bytes ≤ MOST_ARRIVALS
 
 -- its byte that arrives in cycle t
 unfoldable pub stretch_byte : StretchBytes → ℕ → Option ℕ

@@ -24,7 +24,7 @@ pub use radio::{Radio, RadioState, TransferOutcome};
 pub use script::Script;
 pub use spi::Spi;
 pub use spi_registers::SpiReg;
-pub use stretch::Stretch;
+pub use stretch::{LONGEST_EVERY, MOST_ARRIVALS, Stretch};
 pub use transmission::{Transmission, ended_byte};
 pub use usart::{Usart, UsartLines};
 pub use usart_receive_buffer::ReceiveBuffer;

@@ -1,6 +1,7 @@
 // Scripts of arriving bytes.
 ghost use Rattle.std.specs.Prelude.{◌≡◌, ℕ, ◌+◌, ◌<◌, ◌≤◌, true, None, [], ◌∷◌, length, is_some, IfOk};
 ghost use Rattle.air_base.specs.Bounds.{LAST_CYCLE, LAST_END};
+ghost use Rattle.serial_ports.specs.declared.stretch.TheConstants.{LONGEST_EVERY, MOST_ARRIVALS};
 ghost use Rattle.serial_ports.specs.Script.{Arrives, first_byte, script_byte};
 
 use crate::Stretch;
@@ -87,8 +88,8 @@ impl Script {
     pub fn new(at: u64, every: u64, bytes: Vec<u8>) -> Script
         requires at { at ≤ LAST_CYCLE }
         requires some { 1 ≤ every }
-        requires every { every ≤ 65535 }
-        requires few { length bytes.items ≤ 65536 }
+        requires every { every ≤ LONGEST_EVERY }
+        requires few { length bytes.items ≤ MOST_ARRIVALS }
         ensures { result ≡ record { stretches = record { at = at; every = every; bytes = bytes.items } ∷ [] } }
     {
         Script {

@@ -2,10 +2,17 @@
 ghost use Rattle.std.specs.Prelude.{◌≡◌, ℕ, ◌+◌, ◌-◌, ◌*◌, ◌<◌, ◌≤◌, nat_le, true, None, length, slice_get, is_some, IfOk, IfSome};
 ghost use Rattle.air_base.specs.Bounds.{LAST_CYCLE, LAST_END};
 ghost use Rattle.serial_ports.specs.InOrder.{behind};
+ghost use Rattle.serial_ports.specs.declared.stretch.TheConstants.{LONGEST_EVERY, MOST_ARRIVALS};
 ghost use Rattle.serial_ports.specs.Script.{IsByteOf, IsQuiet, stretch_byte};
 
 use avr_base::NoMemory;
 use std::marker::Model;
+
+/// The most cycles from one byte of a stretch to the next.
+pub const LONGEST_EVERY: u64 = 65_535;
+
+/// The most bytes of a stretch, and of all stretches of a network.
+pub const MOST_ARRIVALS: usize = 65_536;
 
 /// Bytes that arrive at a USART from outside at equal distances: byte i in cycle `at + i * every`. A contract sees it as
 /// its `StretchBytes`.
@@ -42,8 +49,8 @@ impl Stretch {
     pub fn new(at: u64, every: u64, bytes: Vec<u8>) -> Stretch
         requires at { at ≤ LAST_CYCLE }
         requires some { 1 ≤ every }
-        requires every { every ≤ 65535 }
-        requires few { length bytes.items ≤ 65536 }
+        requires every { every ≤ LONGEST_EVERY }
+        requires few { length bytes.items ≤ MOST_ARRIVALS }
         ensures { result ≡ record { at = at; every = every; bytes = bytes.items } }
     {
         Stretch { at, every, bytes }

@@ -1,6 +1,7 @@
 -- A list of sends with, for each node, a way back along its own sends. Own to this simulator.
 use Rattle.std.specs.Prelude.{◌≡◌, ℕ, zero, suc, ◌<◌, ◌≤◌, ◌==◌, if◌then◌else◌, List, length, slice_index, slice_index_or}
 use Rattle.std.specs.List.{All, AllPairs}
+use Rattle.air_base.specs.declared.bounds.TheConstants.{MOST_NODES}
 use Rattle.air_base.specs.declared.air.Send.{Send}
 use Rattle.world_core.specs.declared.ways.JumpPointer.{JumpPointer}
 
@@ -39,13 +40,13 @@ IsPlaceOf sends k place = (i : ℕ) → suc i ≡ place → (send_at sends i).no
 
 -- for each node, 1 + the place of its last send
 abbrev pub AreNewest : List Send → List ℕ → Type 0
-AreNewest sends ends = (k : ℕ) → k < 64 → slice_index ends k ≡ newest sends k (length sends)
+AreNewest sends ends = (k : ℕ) → k < MOST_NODES → slice_index ends k ≡ newest sends k (length sends)
 
 pub record IsLog (sends : List Send) (ways : List JumpPointer) (ends : List ℕ) : Type 0 where
   pub chain : IsChain sends ways
   pub places : AreNewest sends ends
   pub rises : Rises sends
-  pub nodes : All (λ x. x.node < 64) sends
+  pub nodes : All (λ x. x.node < MOST_NODES) sends
 
 -- what a log holds: its sends, and how many there is room for
 pub record LogFacts : Type 0 where

@@ -2,6 +2,7 @@
 use Rattle.std.specs.Prelude.{◌≡◌, ℕ, ◌+◌, ◌*◌, ◌/◌, ◌≤◌, Bool, nat_le, nat_lt, List, length, take, drop}
 use Rattle.std.specs.List.{All, filter}
 use Rattle.air_base.specs.declared.air.Send.{Send}
+use Rattle.world_core.specs.declared.kept.TheConstants.{EPOCH}
 use Rattle.world_core.specs.declared.world.WorldFacts.{WorldFacts}
 use Rattle.world_core.specs.Topology.{Topology, reach}
 use Rattle.world_core.specs.Sends.{sends_of, sends_below}
@@ -32,7 +33,7 @@ pub record IsPart (w : WorldFacts) (f : ℕ) (gone : ℕ → ℕ) (sent : List �
 
 -- how many cycles an epoch has: a send is posted less than so many above the floor
 abbrev pub epoch : ℕ
-epoch = 262144
+epoch = EPOCH
 
 -- room for what a record can hold whose sends lie below its floor and so many cycles
 abbrev pub kept_room_of : Topology → ℕ → ℕ

@@ -1,6 +1,7 @@
 -- For each node the nodes that it hears, as a table of lists. Own to this simulator.
 use Rattle.std.specs.Prelude.{◌≡◌, ℕ, ◌<◌, ◌≤◌, nat_lt, if◌then◌else◌, List, [], ◌∷◌, take, slice_index_or}
 use Rattle.world_core.specs.declared.neighbours.NodeList.{NodeList}
+use Rattle.air_base.specs.declared.bounds.TheConstants.{MOST_NODES}
 use Rattle.air_base.specs.Each.{each_below}
 use Rattle.world_core.specs.LinkTable.{entry_at}
 
@@ -21,4 +22,4 @@ entered places j n = each_below n (λ k. if nat_lt 0 (entry_at places k j) then 
 -- the lists of the nodes below m say what the table of places says of n nodes
 pub record AreEntered (places : List ℕ) (n m : ℕ) (rows : List NodeList) : Type 0 where
   pub lists : (j : ℕ) → j < m → listed (row_at rows j) ≡ entered places j n
-  pub counts : (j : ℕ) → j < m → (row_at rows j).count ≤ 64
+  pub counts : (j : ℕ) → j < m → (row_at rows j).count ≤ MOST_NODES

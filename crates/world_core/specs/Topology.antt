@@ -1,10 +1,11 @@
 -- The topology of a network of nodes, and which topologies there are. Own to this simulator.
 use Rattle.std.specs.Prelude.{◌≡◌, ◌≢◌, ℕ, suc, ◌+◌, ◌≤◌, ◌<◌, max, Bool, true, not, ◌&&◌, ◌||◌, ◌==◌, nat_le, nat_lt, if◌then◌else◌, List, [], ◌∷◌, length, take, slice_index_or}
 use Rattle.air_base.specs.Bounds.{LAST_CYCLE}
-use Rattle.air_base.specs.declared.bounds.TheConstants.{LONGEST_BYTE, SHORTEST_BYTE}
+use Rattle.air_base.specs.declared.bounds.TheConstants.{LAST_SHORT_CYCLE, LONGEST_BYTE, LONGEST_LATENCY, MOST_NODES, SHORTEST_BYTE}
 use Rattle.std.specs.List.{All, AllPairs, Contains, list_any}
 use Rattle.world_core.specs.declared.link_table.Link.{Link}
 use Rattle.world_core.specs.declared.spans.Span.{Span}
+use Rattle.world_core.specs.declared.spans.TheConstants.{MOST_SPANS}
 use Rattle.world_core.specs.declared.faults.TopoFault.{TopoFault}
 use Rattle.world_core.specs.declared.faults.TopoFault.TheVariants.{Range, SelfLink, TwiceLinked}
 use Rattle.air_base.specs.Each.{each_below}
@@ -39,24 +40,24 @@ IsSpan links x = (x.link < links) × (x.from < x.until) × (x.until ≤ LAST_CYC
 -- the ranges of its numbers
 pub record HasRanges (t : Topology) : Type 0 where
   pub nodes_from : 1 ≤ t.nodes
-  pub nodes_to : t.nodes ≤ 64
+  pub nodes_to : t.nodes ≤ MOST_NODES
   pub limit_from : 1 ≤ t.limit
   pub limit_to : t.limit ≤ LAST_CYCLE
   pub latency_from : 1 ≤ t.latency
-  pub latency_to : t.latency ≤ 65535
+  pub latency_to : t.latency ≤ LONGEST_LATENCY
   pub byte_from : SHORTEST_BYTE ≤ t.byte_time
   pub byte_to : t.byte_time ≤ LONGEST_BYTE
   pub ends : All (λ l. (l.from < t.nodes) × (l.to < t.nodes)) t.links
   -- there is no own latency, or one of each link
   pub own_count : 0 < length t.own → length t.own ≡ length t.links
-  pub own_in : All (λ n. (1 ≤ n) × (n ≤ 65535)) t.own
-  pub span_count : length t.spans ≤ 4096
+  pub own_in : All (λ n. (1 ≤ n) × (n ≤ LONGEST_LATENCY)) t.own
+  pub span_count : length t.spans ≤ MOST_SPANS
   pub spans_in : All (IsSpan (length t.links)) t.spans
   pub spans_apart : AllPairs IsSpanOrder t.spans
 
 -- the bound on the limit of a topology without spans
 abbrev pub IsShort : Topology → Type 0
-IsShort t = t.limit ≤ 10000000
+IsShort t = t.limit ≤ LAST_SHORT_CYCLE
 
 -- a link that may stand behind these: it goes to another node, and is none of them
 abbrev pub IsNewLink : List Link → Link → Type 0

@@ -23,6 +23,6 @@ pub use hear::heard_with;
 pub use kept::{EPOCH, cut_law, kept_law, needed_law, part_law, room_law};
 pub use link_table::Link;
 pub use log::SendLog;
-pub use spans::Span;
+pub use spans::{MOST_SPANS, Span};
 pub use topo::Topo;
 pub use world::{World, WorldFacts};

@@ -1,6 +1,7 @@
 // What a node hears of a chained list of sends.
 ghost use Rattle.std.specs.Prelude.{◌≡◌, ◌↔◌, ◌<◌, ◌≤◌, true, length, take, IsTrue};
 ghost use Rattle.std.specs.List.{All, filter};
+ghost use Rattle.air_base.specs.declared.bounds.TheConstants.{MOST_NODES};
 ghost use Rattle.world_core.specs.Topology.{IsInside, is_linked};
 ghost use Rattle.world_core.specs.Heard.{heard, is_audible, age_of};
 ghost use Rattle.world_core.specs.Sends.{sends_of};
@@ -102,7 +103,7 @@ pub fn listen(
 ) -> Heard
     requires chain { IsChain sends.now ways.now }
     requires last { AreNewest sends.now last.now }
-    requires places { length last.now ≡ 64 }
+    requires places { length last.now ≡ MOST_NODES }
     requires rises { Rises sends.now }
     requires inside { All (λ x. IsInside topo.now x.node x.cycle) sends.now }
     ensures { result ≡ heard topo.now sends.now node cycle }

@@ -2,18 +2,18 @@
 use crate::listen::listen;
 use crate::ways::{JumpPointer, chained, keep, no_places, way_from};
 use crate::{NoMemory, Topo};
-use air_base::{Heard, Send};
+use air_base::{Heard, MOST_NODES, Send};
 use std::alloc::Global;
 use std::marker::Model;
 
-/// The sends of a network of at most 64 nodes, in the order of their posting; those of each node rise in cycle.
-/// Its room is taken at once.
+/// The sends of a network of at most `MOST_NODES` nodes, in the order of their posting; those of each node rise in
+/// cycle. Its room is taken at once.
 pub struct SendLog {
     sends: Vec<Send>,
     // for each send how to go back from it
     ways: Vec<JumpPointer>,
     // for each node the place of its last send, counted from 1, or 0
-    last: [usize; 64],
+    last: [usize; MOST_NODES as usize],
     room: usize,
 }
 
@@ -43,6 +43,7 @@ impl Model for SendLog {
 impl SendLog {
     ghost use Rattle.std.specs.Prelude.{◌≡◌, ◌<◌, ◌++◌, [], ◌∷◌, length, IfOk};
     ghost use Rattle.std.specs.List.{All, filter};
+    ghost use Rattle.air_base.specs.declared.bounds.TheConstants.{MOST_NODES};
     ghost use Rattle.world_core.specs.Topology.{IsInside};
     ghost use Rattle.world_core.specs.Heard.{heard};
     ghost use Rattle.world_core.specs.Kept.{is_kept};
@@ -63,7 +64,7 @@ impl SendLog {
 
     /// Posts a send, which lies above the earlier ones of its node. It takes no memory.
     pub fn push(&mut self, send: Send)
-        requires node { send.node < 64 }
+        requires node { send.node < MOST_NODES }
         requires after { All (λ y. y.cycle < send.cycle) (sends_of send.node self.old.sends) }
         requires room { length self.old.sends < self.old.room }
         ensures { self.new ≡ log_of (self.old.sends ++ send ∷ []) self.old.room }

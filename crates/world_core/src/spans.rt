@@ -1,10 +1,13 @@
 // When a link is open: a search among the spans of all links, which stand in order.
 ghost use Rattle.std.specs.Prelude.{◌≡◌, ◌↔◌, ℕ, ◌+◌, ◌-◌, nat_lt, ◌<◌, ◌≤◌, true, false, length, slice_index_or, IsTrue};
-ghost use Rattle.air_base.specs.declared.bounds.TheConstants.{LONGEST_BYTE};
+ghost use Rattle.air_base.specs.declared.bounds.TheConstants.{LONGEST_BYTE, LONGEST_LATENCY};
 ghost use Rattle.std.specs.List.{All, AllPairs};
 ghost use Rattle.std.specs.List.Sorted.{IsPartitionPoint};
 ghost use Rattle.world_core.specs.Topology.{IsSpan, IsSpanOrder, is_open_in, is_reached_in};
 ghost use Rattle.world_core.specs.SpanSearch.{begins_by, IsLastBegun};
+
+/// The most spans of all links together.
+pub const MOST_SPANS: usize = 4_096;
 
 /// A span of cycles in which a link is open.
 #[derive(Clone, Copy)]
@@ -103,7 +106,7 @@ pub fn is_open_at(spans: &[Span], place: u64, cycle: u64) -> bool
 pub fn is_reached(spans: &[Span], place: u64, latency: u64, byte_time: u64, cycle: u64) -> bool
     requires apart { AllPairs IsSpanOrder spans.now }
     requires spans { All (λ x. x.from < x.until) spans.now }
-    requires sum { (latency ≤ 65535) × (1 ≤ byte_time) × (byte_time ≤ LONGEST_BYTE) }
+    requires sum { (latency ≤ LONGEST_LATENCY) × (1 ≤ byte_time) × (byte_time ≤ LONGEST_BYTE) }
     ensures { result ≡ is_reached_in spans.now place latency byte_time cycle }
 {
     if cycle < latency {
@@ -118,7 +121,7 @@ pub fn is_reached(spans: &[Span], place: u64, latency: u64, byte_time: u64, cycl
 
 // Whether a byte of the cycle before `until` is still heard.
 fn is_in_reach(until: u64, latency: u64, byte_time: u64, cycle: u64) -> bool
-    requires sum { (latency ≤ 65535) × (1 ≤ byte_time) × (byte_time ≤ LONGEST_BYTE) × (latency ≤ cycle) }
+    requires sum { (latency ≤ LONGEST_LATENCY) × (1 ≤ byte_time) × (byte_time ≤ LONGEST_BYTE) × (latency ≤ cycle) }
     ensures { result ≡ nat_lt (cycle + 1) (until + latency + byte_time) }
 {
     cycle - latency < until || cycle - latency - until < byte_time - 1

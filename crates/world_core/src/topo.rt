@@ -1,7 +1,7 @@
 // The topology of a network of nodes.
 ghost use Rattle.std.specs.Prelude.{◌≡◌, ◌↔◌, ◌==◌, ◌&&◌, ◌+◌, nat_le, nat_lt, ◌<◌, ◌≤◌, MatchResult, IsTrue, length};
 ghost use Rattle.air_base.specs.Bounds.{LAST_CYCLE};
-ghost use Rattle.air_base.specs.declared.bounds.TheConstants.{LONGEST_BYTE, SHORTEST_BYTE};
+ghost use Rattle.air_base.specs.declared.bounds.TheConstants.{LONGEST_BYTE, LONGEST_LATENCY, MOST_NODES, SHORTEST_BYTE};
 ghost use Rattle.std.specs.List.{All, AllPairs, list_any};
 ghost use Rattle.world_core.specs.FirstFault.{AllKeep};
 ghost use Rattle.world_core.specs.Topology.{topology, HasRanges, IsNewLink, IsLinkFault, IsSpan, IsSpanOrder, place_in, greatest, has_span};
@@ -9,9 +9,11 @@ ghost use Rattle.world_core.specs.LinkTable.{IsTableOf};
 
 use crate::link_table::LinkTable;
 use crate::neighbours::NeighbourTable;
-use crate::spans::{is_open_at, is_reached};
+use crate::spans::{MOST_SPANS, is_open_at, is_reached};
 use crate::{Link, NoMemory, Span, TopoFault};
-use air_base::{LAST_CYCLE, LONGEST_BYTE, SHORTEST_BYTE};
+use air_base::{
+    LAST_CYCLE, LAST_SHORT_CYCLE, LONGEST_BYTE, LONGEST_LATENCY, MOST_NODES, SHORTEST_BYTE,
+};
 use std::marker::Model;
 
 /// Which nodes there are, how long they run, and who hears whom: what all nodes of a network share.
@@ -52,6 +54,7 @@ impl Drop for Topo {
 
 impl Model for Topo {
     ghost use Rattle.std.specs.Prelude.{◌≡◌};
+    ghost use Rattle.air_base.specs.declared.bounds.TheConstants.{MOST_NODES};
     ghost use Rattle.world_core.specs.Topology.{Topology, topology, IsTopology, greatest};
     ghost use Rattle.world_core.specs.LinkTable.{IsTableOf};
     ghost use Rattle.world_core.specs.NeighbourTable.{AreEntered};
@@ -60,7 +63,7 @@ impl Model for Topo {
 
     ghost view = { λ t. topology t.nodes t.limit t.latency t.byte_time t.links.items t.own.items t.spans.items };
 
-    ghost invariant = { λ t. IsTopology (topology t.nodes t.limit t.latency t.byte_time t.links.items t.own.items t.spans.items) × IsTableOf t.links.items t.table.rows × AreEntered t.table.rows t.nodes 64 t.neighbours.rows × (t.reach ≡ greatest t.own.items t.latency) };
+    ghost invariant = { λ t. IsTopology (topology t.nodes t.limit t.latency t.byte_time t.links.items t.own.items t.spans.items) × IsTableOf t.links.items t.table.rows × AreEntered t.table.rows t.nodes MOST_NODES t.neighbours.rows × (t.reach ≡ greatest t.own.items t.latency) };
 }
 
 // Whether each link ends at nodes that there are.
@@ -72,11 +75,11 @@ fn are_ends(nodes: u8, links: &[Link]) -> bool
 
 // Whether the numbers of a topology are in their ranges.
 fn are_numbers(nodes: u8, limit: u64, latency: u64, byte_time: u64) -> bool
-    ensures { IsTrue result ↔ ((1 ≤ nodes) × (nodes ≤ 64) × (1 ≤ limit) × (limit ≤ LAST_CYCLE) × (1 ≤ latency) × (latency ≤ 65535) × (SHORTEST_BYTE ≤ byte_time) × (byte_time ≤ LONGEST_BYTE)) }
+    ensures { IsTrue result ↔ ((1 ≤ nodes) × (nodes ≤ MOST_NODES) × (1 ≤ limit) × (limit ≤ LAST_CYCLE) × (1 ≤ latency) × (latency ≤ LONGEST_LATENCY) × (SHORTEST_BYTE ≤ byte_time) × (byte_time ≤ LONGEST_BYTE)) }
 {
-    (1..=64).contains(&nodes)
+    (1..=MOST_NODES).contains(&nodes)
         && (1..=LAST_CYCLE).contains(&limit)
-        && (1..=65_535).contains(&latency)
+        && (1..=LONGEST_LATENCY).contains(&latency)
         && (SHORTEST_BYTE..=LONGEST_BYTE).contains(&byte_time)
 }
 
@@ -92,9 +95,9 @@ fn are_enough(count: usize, own: &[u64]) -> bool
 
 // Whether all own latencies are in their range.
 fn are_latencies(own: &[u64]) -> bool
-    ensures { IsTrue result ↔ All (λ n. (1 ≤ n) × (n ≤ 65535)) own.now }
+    ensures { IsTrue result ↔ All (λ n. (1 ≤ n) × (n ≤ LONGEST_LATENCY)) own.now }
 {
-    own.iter().all(|n| (1..=65_535).contains(n))
+    own.iter().all(|n| (1..=LONGEST_LATENCY).contains(n))
 }
 
 // Whether all spans are in their ranges, where there are so many links.
@@ -152,7 +155,7 @@ fn are_in_range(
     if !are_latencies(own) {
         return false;
     }
-    if spans.len() > 4_096 {
+    if spans.len() > MOST_SPANS {
         return false;
     }
     if !are_spans(count as u64, spans) {
@@ -163,7 +166,7 @@ fn are_in_range(
 
 // The table of the links, or the first link that goes to its own node or equals an earlier one.
 fn table_of(links: &[Link]) -> Result<LinkTable, TopoFault>
-    requires { All (λ l. (l.from < 64) × (l.to < 64)) links.now }
+    requires { All (λ l. (l.from < MOST_NODES) × (l.to < MOST_NODES)) links.now }
     ensures { MatchResult result
         (λ table. AllKeep IsNewLink links.now × IsTableOf links.now table.rows)
         (IsLinkFault links.now) }
@@ -194,6 +197,7 @@ fn greatest(own: &[u64], least: u64) -> u64
 
 impl Topo {
     ghost use Rattle.std.specs.Prelude.{◌≡◌, ◌↔◌, ◌≤◌, [], IfOk, IfErr, IsOk, IsTrue};
+    ghost use Rattle.air_base.specs.declared.bounds.TheConstants.{LAST_SHORT_CYCLE, LONGEST_LATENCY};
     ghost use Rattle.world_core.specs.Topology.{topology, is_linked, is_needed, is_open, latency_of, neighbours, place_in, reach, IsTopology, IsTopoFault, IsShortFault};
 
     /// The topology of these numbers: `limit`, `latency` and `byte_time` in cycles, the limit at most 10,000,000. Each
@@ -207,7 +211,7 @@ impl Topo {
         byte_time: u64,
         links: Vec<Link>,
     ) -> Result<Topo, TopoFault>
-        ensures ok { IsOk result ↔ (IsTopology (topology nodes limit latency byte_time links.items [] []) × (limit ≤ 10000000)) }
+        ensures ok { IsOk result ↔ (IsTopology (topology nodes limit latency byte_time links.items [] []) × (limit ≤ LAST_SHORT_CYCLE)) }
         ensures value { IfOk result (λ t. t ≡ topology nodes limit latency byte_time links.items [] []) }
         ensures fault { IfErr result (IsShortFault (topology nodes limit latency byte_time links.items [] [])) }
     {
@@ -228,11 +232,11 @@ impl Topo {
         links: Vec<Link>,
         own: Vec<u64>,
     ) -> Result<Topo, TopoFault>
-        ensures ok { IsOk result ↔ (IsTopology (topology nodes limit latency byte_time links.items own.items []) × (limit ≤ 10000000)) }
+        ensures ok { IsOk result ↔ (IsTopology (topology nodes limit latency byte_time links.items own.items []) × (limit ≤ LAST_SHORT_CYCLE)) }
         ensures value { IfOk result (λ t. t ≡ topology nodes limit latency byte_time links.items own.items []) }
         ensures fault { IfErr result (IsShortFault (topology nodes limit latency byte_time links.items own.items [])) }
     {
-        if limit > 10_000_000 {
+        if limit > LAST_SHORT_CYCLE {
             return Err(TopoFault::Range);
         }
         let spans = Vec::new(*links.allocator());
@@ -388,7 +392,7 @@ impl Topo {
     pub fn latency_of(&self, from: u8, to: u8) -> u64
         ensures value { result ≡ latency_of self.now from to }
         ensures lawful { IsTopology self.now }
-        ensures most { (1 ≤ result) × (result ≤ 65535) }
+        ensures most { (1 ≤ result) × (result ≤ LONGEST_LATENCY) }
     {
         match self.own.get(self.place_of(from, to)) {
             Some(own) => *own,
@@ -400,7 +404,7 @@ impl Topo {
     pub fn reach(&self) -> u64
         ensures value { result ≡ reach self.now }
         ensures lawful { IsTopology self.now }
-        ensures most { (1 ≤ result) × (result ≤ 65535) }
+        ensures most { (1 ≤ result) × (result ≤ LONGEST_LATENCY) }
     {
         self.reach
     }

@@ -5,11 +5,12 @@
 // skew binary numbers).
 ghost use Rattle.std.specs.Prelude.{◌≡◌, ℕ, ◌<◌, ◌≤◌, nat_lt, length, slice_index, vec_capacity};
 ghost use Rattle.std.specs.List.{All, filter};
+ghost use Rattle.air_base.specs.declared.bounds.TheConstants.{MOST_NODES};
 ghost use Rattle.world_core.specs.Kept.{is_kept};
 ghost use Rattle.world_core.specs.Chain.{newest, AreBack, IsChain, AreNewest};
 
 use crate::Topo;
-use air_base::Send;
+use air_base::{MOST_NODES, Send};
 
 /// How to go back from a send. A place counts from 1, and 0 is none.
 #[derive(Clone, Copy)]
@@ -70,10 +71,10 @@ pub fn way_from(ways: &[JumpPointer], before: usize) -> JumpPointer
 }
 
 /// No node has sent.
-pub fn no_places() -> [usize; 64]
-    ensures { (k : ℕ) → k < 64 → slice_index result k ≡ 0 }
+pub fn no_places() -> [usize; MOST_NODES as usize]
+    ensures { (k : ℕ) → k < MOST_NODES → slice_index result k ≡ 0 }
 {
-    [0; 64]
+    [0; MOST_NODES as usize]
 }
 
 // Drops the sends up to this cycle.
@@ -96,8 +97,8 @@ pub fn keep(sends: &mut Vec<Send>, topo: &Topo, floor: u64)
 }
 
 /// For each node the place of its last send, counted from 1, or 0. The ways back of all sends go into `ways`.
-pub fn chained(sends: &[Send], ways: &mut Vec<JumpPointer>) -> [usize; 64]
-    requires nodes { All (λ x. x.node < 64) sends.now }
+pub fn chained(sends: &[Send], ways: &mut Vec<JumpPointer>) -> [usize; MOST_NODES as usize]
+    requires nodes { All (λ x. x.node < MOST_NODES) sends.now }
     requires room { length sends.now ≤ vec_capacity ways.old }
     ensures chain { IsChain sends.now ways.new.items }
     ensures last { AreNewest sends.now result }

@@ -107,14 +107,14 @@ returns-then-count-eq0 c =
     let e4 : (length (nodes ms) == 0) ≡ true = ap (λ (n : ℕ). n == 0) (sym c.node_count-count.ensures) ∙ none c.node_count-count.result c.if-count-eq0.true in
     sym (behind (unknown_key (version_of ms) ms) UnknownKey (after_unknown ms) e0 ∙ (behind (missing ms) Missing (after_missing ms) e1 ∙ (behind (not (right_kinds ms)) WrongKind (after_kinds ms) e2 ∙ (behind (not (in_range (version_of ms) ms)) OutOfRange (after_ranges ms) e3 ∙ (here (length (nodes ms) == 0) NoNodes (after_none ms) e4)))))
 
-pub returns-then-count-gt64 : goal.returns-then-count-gt64
+pub returns-then-count-gt-MOST : goal.returns-then-count-gt-MOST
 unfolding early_tests
-returns-then-count-gt64 c =
+returns-then-count-gt-MOST c =
     let ms = table_view c.args.table.now in
     let e0 : (unknown_key (version_of ms) ms) ≡ false = unknown c.args.version ms c.holds_in.result true c.requires c.holds_in.ensures c.if-not-holds_in.false in
     let e1 : (missing ms) ≡ false = lacks ms c.holds_in-else-not-holds_in.result true c.holds_in-else-not-holds_in.ensures c.if-not-holds_in-2.false in
     let e2 : (not (right_kinds ms)) ≡ false = ap not (sym c.right_kinds.ensures ∙ c.if-not-right_kinds.false) in
     let e3 : (not (in_range (version_of ms) ms)) ≡ false = out c.args.version ms c.in_range.result true c.requires c.in_range.ensures c.if-not-in_range.false in
     let e4 : (length (nodes ms) == 0) ≡ false = ap (λ (n : ℕ). n == 0) (sym c.node_count-count.ensures) ∙ some c.node_count-count.result c.if-count-eq0.false in
-    let e5 : (nat_lt 64 (length (nodes ms))) ≡ true = ap (λ (n : ℕ). nat_lt 64 n) (sym c.node_count-count.ensures) ∙ many c.node_count-count.result c.if-count-gt64.true in
+    let e5 : (nat_lt 64 (length (nodes ms))) ≡ true = ap (λ (n : ℕ). nat_lt 64 n) (sym c.node_count-count.ensures) ∙ many c.node_count-count.result c.if-count-gt-MOST.true in
     sym (behind (unknown_key (version_of ms) ms) UnknownKey (after_unknown ms) e0 ∙ (behind (missing ms) Missing (after_missing ms) e1 ∙ (behind (not (right_kinds ms)) WrongKind (after_kinds ms) e2 ∙ (behind (not (in_range (version_of ms) ms)) OutOfRange (after_ranges ms) e3 ∙ (behind (length (nodes ms) == 0) NoNodes (after_none ms) e4 ∙ (here (nat_lt 64 (length (nodes ms))) TooManyNodes (after_many ms) e5))))))

@@ -15,8 +15,8 @@ returns-then-not-are_enough c = no_ranges _ (λ r. false≢true (c.if-not-are_en
 pub returns-then-not-are_latencies : goal.returns-then-not-are_latencies
 returns-then-not-are_latencies c = no_ranges _ (λ r. false≢true (c.if-not-are_latencies.ensures.1 r.own_in))
 
-pub returns-then-spans-gt4096 : goal.returns-then-spans-gt4096
-returns-then-spans-gt4096 c = no_ranges _ (λ r. let most = r.span_count in omega (arith, c.if-spans-gt4096.true))
+pub returns-then-spans-gt-MOST_SPANS : goal.returns-then-spans-gt-MOST_SPANS
+returns-then-spans-gt-MOST_SPANS c = no_ranges _ (λ r. let most = r.span_count in omega (arith, c.if-spans-gt-MOST_SPANS.true))
 
 pub returns-then-not-are_spans : goal.returns-then-not-are_spans
 returns-then-not-are_spans c = no_ranges _ (λ r. false≢true (c.if-not-are_spans.ensures.1 r.spans_in))
@@ -38,7 +38,7 @@ returns c = (
     ends = c.if-not-are_ends.ensures.0 refl;
     own_count = λ some. c.if-not-are_enough.ensures.0 refl some;
     own_in = c.if-not-are_latencies.ensures.0 refl;
-    span_count = omega (arith, c.if-spans-gt4096.false);
+    span_count = omega (arith, c.if-spans-gt-MOST_SPANS.false);
     spans_in = c.if-not-are_spans.ensures.0 refl;
     spans_apart = c.are_apart.ensures.0 apart;
   },
