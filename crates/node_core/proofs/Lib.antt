@@ -19,7 +19,8 @@ pub mod Wakes
 pub mod Strides
 -- A round of a run: a rest, room for rows, a stride, and the devices' part of the cycle in which the stride ended.
 pub mod Until
--- A part of the board that no access changes is as it was after an instruction and after an entry.
+-- A part of the data space that no access changes is as it was after an instruction and after an entry, and so is that
+-- part of a node's state after the processor's part of a cycle.
 pub mod Untouched
 -- The clock of a node runs on with the cycles, and its state does not show it.
 pub mod Clocks

@@ -68,28 +68,12 @@ no_flag (op.Bclr s) e = absurd (false≢true (sym e))
 no_flag _ e = refl
 
 no_flow_write : (o : Op) → may_change (after_of o) ≡ false → writes_in_flow o ≡ false
-no_flow_write (op.Call k) h = absurd (false≢true (sym h))
-no_flow_write (op.Rcall k) h = absurd (false≢true (sym h))
-no_flow_write op.Icall h = absurd (false≢true (sym h))
-no_flow_write op.Reti h = absurd (false≢true (sym h))
-no_flow_write _ h = refl
+no_flow_write op.Nop h = refl
+no_flow_write _ h = cc
 
 no_memory_write : (o : Op) → may_change (after_of o) ≡ false → writes_in_memory o ≡ false
-no_memory_write (op.StX r) h = absurd (false≢true (sym h))
-no_memory_write (op.StdY q r) h = absurd (false≢true (sym h))
-no_memory_write (op.StdZ q r) h = absurd (false≢true (sym h))
-no_memory_write (op.Sts k r) h = absurd (false≢true (sym h))
-no_memory_write (op.OutIo a r) h = absurd (false≢true (sym h))
-no_memory_write (op.StXInc r) h = absurd (false≢true (sym h))
-no_memory_write (op.StYInc r) h = absurd (false≢true (sym h))
-no_memory_write (op.StZInc r) h = absurd (false≢true (sym h))
-no_memory_write (op.StXDec r) h = absurd (false≢true (sym h))
-no_memory_write (op.StYDec r) h = absurd (false≢true (sym h))
-no_memory_write (op.StZDec r) h = absurd (false≢true (sym h))
-no_memory_write (op.Push r) h = absurd (false≢true (sym h))
-no_memory_write (op.Sbi a b) h = absurd (false≢true (sym h))
-no_memory_write (op.Cbi a b) h = absurd (false≢true (sym h))
-no_memory_write _ h = refl
+no_memory_write op.Nop h = refl
+no_memory_write _ h = cc
 
 same_half : (a b : ℕ) → b / 128 ≡ a / 128 → (p q : Bool) → nat_lt a 128 ≡ p → nat_lt b 128 ≡ q → q ≡ p
 same_half a b half true true e f = refl
@@ -162,44 +146,13 @@ may_access _ = false
 module _ (flash : List ℕ) (cpu : Cpu) (bus : NodeBus) where
   flow_apart : (o : Op) → may_access (after_of o) ≡ false → (flow_effect bus_get bus_put flash o cpu bus).bus ≡ bus
   unfolding flow_effect
-  flow_apart (op.Sbis a b) h = absurd (false≢true (sym h))
-  flow_apart (op.Sbic a b) h = absurd (false≢true (sym h))
-  flow_apart (op.Call k) h = absurd (false≢true (sym h))
-  flow_apart (op.Rcall k) h = absurd (false≢true (sym h))
-  flow_apart op.Icall h = absurd (false≢true (sym h))
-  flow_apart op.Ret h = absurd (false≢true (sym h))
-  flow_apart op.Reti h = absurd (false≢true (sym h))
-  flow_apart _ h = refl
+  flow_apart op.Nop h = refl
+  flow_apart _ h = cc
 
   memory_apart : (o : Op) → may_access (after_of o) ≡ false → (memory_effect bus_get bus_put flash o cpu bus).bus ≡ bus
   unfolding memory_effect
-  memory_apart (op.LdX d) h = absurd (false≢true (sym h))
-  memory_apart (op.LddY d q) h = absurd (false≢true (sym h))
-  memory_apart (op.LddZ d q) h = absurd (false≢true (sym h))
-  memory_apart (op.Lds d k) h = absurd (false≢true (sym h))
-  memory_apart (op.InIo d a) h = absurd (false≢true (sym h))
-  memory_apart (op.LdXInc d) h = absurd (false≢true (sym h))
-  memory_apart (op.LdYInc d) h = absurd (false≢true (sym h))
-  memory_apart (op.LdZInc d) h = absurd (false≢true (sym h))
-  memory_apart (op.LdXDec d) h = absurd (false≢true (sym h))
-  memory_apart (op.LdYDec d) h = absurd (false≢true (sym h))
-  memory_apart (op.LdZDec d) h = absurd (false≢true (sym h))
-  memory_apart (op.StX r) h = absurd (false≢true (sym h))
-  memory_apart (op.StdY q r) h = absurd (false≢true (sym h))
-  memory_apart (op.StdZ q r) h = absurd (false≢true (sym h))
-  memory_apart (op.Sts k r) h = absurd (false≢true (sym h))
-  memory_apart (op.OutIo a r) h = absurd (false≢true (sym h))
-  memory_apart (op.StXInc r) h = absurd (false≢true (sym h))
-  memory_apart (op.StYInc r) h = absurd (false≢true (sym h))
-  memory_apart (op.StZInc r) h = absurd (false≢true (sym h))
-  memory_apart (op.StXDec r) h = absurd (false≢true (sym h))
-  memory_apart (op.StYDec r) h = absurd (false≢true (sym h))
-  memory_apart (op.StZDec r) h = absurd (false≢true (sym h))
-  memory_apart (op.Push r) h = absurd (false≢true (sym h))
-  memory_apart (op.Pop d) h = absurd (false≢true (sym h))
-  memory_apart (op.Sbi a b) h = absurd (false≢true (sym h))
-  memory_apart (op.Cbi a b) h = absurd (false≢true (sym h))
-  memory_apart _ h = refl
+  memory_apart op.Nop h = refl
+  memory_apart _ h = cc
 
   apart_by : (o : Op) → may_access (after_of o) ≡ false → (k : Class) → (executed_by k flash o cpu bus).bus ≡ bus
   apart_by o h class.Arith = refl

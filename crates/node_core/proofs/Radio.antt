@@ -1,25 +1,15 @@
 -- The radio through a cycle: the processor leaves it as it is, and two sends lie apart.
-use Rattle.std.proofs.Common.{◌≡◌, ℕ, ◌+◌, ◌≤◌, nat_lt, Bool, true, false, cond, Option, Some, None, List, is_some, refl, sym, subst, ap, ◌∙◌, arith}
-use Rattle.std.specs.Prelude.{Result, Ok, Err}
-use Rattle.avr_base.specs.declared.stop.StopCause.{StopCause}
-use Rattle.avr_decoder.specs.declared.op.Op.{Op}
-use Rattle.board_io.specs.declared.clocked.ClockedBoard.{ClockedBoard}
+use Rattle.std.proofs.Common.{◌≡◌, ℕ, ◌+◌, ◌≤◌, Bool, true, false, Some, None, is_some, refl, sym, subst, ap, ◌∙◌, arith}
+use Rattle.board_io.specs.declared.board.Board.{Board}
 use Rattle.board_io.proofs.Radio as board
 use Rattle.serial_ports.specs.declared.radio.Radio.{Radio}
-use Rattle.data_space.specs.declared.bus.Done.{Done}
-use Rattle.data_space.specs.declared.cpu.Cpu.{Cpu}
-use Rattle.data_space.specs.Space.{Access}
-use Rattle.avr_base.specs.declared.interrupts.Vector.{Vector}
 use Rattle.serial_ports.specs.Script.{script_byte}
 use Rattle.air_base.specs.declared.air.Heard.{Heard}
 use Rattle.node_core.specs.declared.bus.NodeBus.{NodeBus}
-use Rattle.node_core.specs.Bus.{bus_at}
 use Rattle.node_core.specs.State.{NodeState}
-use Rattle.node_core.specs.Execute.{executed}
-use Rattle.node_core.specs.Interrupts.{due, entry}
-use Rattle.node_core.specs.Cycle.{acted, after_entry, after_instruction, asks_after, asks_in, begun_in, cpu_cycle, devices_cycle, entered, finished_in, instructed, is_refused, op_now, sends_after, sends_in}
+use Rattle.node_core.specs.Cycle.{asks_after, asks_in, begun_in, cpu_cycle, devices_cycle, finished_in, sends_after, sends_in}
 use Rattle.node_core.proofs.Cycles.{asks_parts, begun_parts, devices_ask, devices_move, devices_send, sends_parts}
-use Rattle.node_core.proofs.Untouched.{entry_keeps, executed_keeps}
+use Rattle.node_core.proofs.Untouched.{cpu_keeps}
 
 abbrev bus_radio : NodeBus → Radio
 bus_radio bus = bus.io.board.radio
@@ -28,44 +18,18 @@ abbrev radio_of : NodeState → Radio
 radio_of s = s.board.radio
 
 -- ---- accesses leave the radio, so does the processor
-executed_radio : (flash : List ℕ) (o : Op) (cpu : Cpu) (bus : NodeBus) → bus_radio (executed flash o cpu bus).bus ≡ bus_radio bus
-executed_radio flash o cpu bus = executed_keeps (λ (io : ClockedBoard). io.board.radio) board.get_radio board.put_radio flash o cpu bus
-
-state_case : (v : Radio) (b : Bool) (p q : NodeState) → radio_of p ≡ v → radio_of q ≡ v → radio_of (cond b p q) ≡ v
-state_case v true p q h k = h
-state_case v false p q h k = k
-
-after_radio : (s : NodeState) (o : Op) (r : Result Done StopCause) (cpu : Cpu) (bus : NodeBus) → radio_of (after_instruction s o r cpu bus) ≡ bus_radio bus
-after_radio s o (Ok d) cpu bus = refl
-after_radio s o (Err cause) cpu bus = refl
-
-instructed_radio : (t : ℕ) (s : NodeState) → radio_of (instructed t s) ≡ radio_of s
-unfolding instructed
-instructed_radio t s =
-    let o = executed s.flash (op_now s) s.cpu (bus_at t s) in
-    state_case (radio_of s) (is_refused s (op_now s)) _ _ refl
-    (after_radio s (op_now s) o.result o.cpu o.bus ∙ executed_radio s.flash (op_now s) s.cpu (bus_at t s))
-
-entry_radio : (word : ℕ) (cpu : Cpu) (bus : NodeBus) → bus_radio (entry word cpu bus).bus ≡ bus_radio bus
-entry_radio word cpu bus = entry_keeps (λ (io : ClockedBoard). io.board.radio) board.get_radio board.put_radio word cpu bus
-
-after_entry_radio : (wait : ℕ) (v : Vector) (s : NodeState) (a : Access (Unit {0}) NodeBus) (r : Result (Unit {0}) StopCause) → radio_of (after_entry wait v s a r) ≡ bus_radio a.bus
-after_entry_radio wait v s a (Ok done) = board.entered_radio v.word a.bus.io.board
-after_entry_radio wait v s a (Err cause) = refl
-
-entered_radio : (t wait : ℕ) (v : Vector) (s : NodeState) → radio_of (entered t wait v s) ≡ radio_of s
-unfolding entered
-entered_radio t wait v s =
-    let a = entry v.word s.cpu (bus_at t s) in
-    after_entry_radio wait v s a a.result ∙ entry_radio v.word s.cpu (bus_at t s)
-
-acted_radio : (t : ℕ) (s : NodeState) (o : Option Vector) → radio_of (acted t s o) ≡ radio_of s
-acted_radio t s None = state_case (radio_of s) s.asleep _ _ refl (instructed_radio t s)
-acted_radio t s (Some v) = state_case (radio_of s) s.asleep _ _ (entered_radio t 7 v s) (state_case (radio_of s) s.owed _ _ (instructed_radio t s) (entered_radio t 3 v s))
-
 cpu_radio : (t : ℕ) (s : NodeState) → radio_of (cpu_cycle t s) ≡ radio_of s
-unfolding cpu_cycle
-cpu_radio t s = state_case (radio_of s) (nat_lt 0 s.wait) _ _ refl (acted_radio t s (due s))
+cpu_radio =
+    cpu_keeps {part = bus_radio} {of_state = radio_of}
+    (record {
+      got = λ bus io at x e. board.get_radio bus.io io at x e;
+      put = λ bus io at x e. board.put_radio bus.io io at x e;
+      stored = λ bus i x. refl;
+    })
+    (record {
+      same = λ s bus e f. ap (λ (b : Board). b.radio) e;
+      served = λ s bus word e f. ap (λ (b : Board). b.radio) e ∙ board.entered_radio word bus.io.board;
+    })
 
 -- ---- through the devices' part
 devices_stopped : (t : ℕ) (s : NodeState) → is_some s.stop ≡ true → devices_cycle t s ≡ s

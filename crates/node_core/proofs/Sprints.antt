@@ -58,7 +58,8 @@ clear_due m e = by_flag (has_flag m.cpu.sreg.bits I) refl
     by_flag false on = refl
 
 -- at its beginning
-pub begins : (t : ℕ) (m : Machine) → m.stop ≡ None → m.wait ≡ 0 → m.asleep ≡ false → m.bus.io.clock ≡ t → m.count ≤ LAST_CYCLE + t → IsSprinting t t m m
+pub begins : (t : ℕ) (m : Machine) → m.stop ≡ None → m.wait ≡ 0 → m.asleep ≡ false → m.bus.io.clock ≡ t
+    → m.count ≤ LAST_CYCLE + t → IsSprinting t t m m
 begins t m going free awake clock count =
     let v : Timed NodeState Row = record { cycle = t; asking = false; state = shown m; rows = m.rows.items } in
     record {
@@ -74,24 +75,6 @@ begins t m going free awake clock count =
       count = count;
       rows = refl;
     }
-
--- none at all
-pub stands : (t : ℕ) (m : Machine) → m.stop ≡ None → m.wait ≡ 0 → m.asleep ≡ false → m.bus.io.clock ≡ t → m.count ≤ LAST_CYCLE + t → IsSprinted t t false m m
-stands t m going free awake clock count = record {
-  comes = λ e. comes_none node_kind (let v : Timed NodeState Row = record { cycle = t; asking = false; state = shown m; rows = m.rows.items } in v);
-  midway = λ e. absurd (false≢true e);
-  same = λ e. refl;
-  len = omega arith;
-  room = refl;
-  script = λ e. refl;
-  going = λ e. going;
-  awake = λ e. awake;
-  free = λ e. free;
-  clock = clock;
-  few = λ e. count;
-  one_more = omega (arith, count);
-  from = omega arith;
-}
 
 module _ (t at : ℕ) (old m : Machine) (h : IsSprinting t at old m) where
   abbrev v : Timed NodeState Row
@@ -114,6 +97,27 @@ module _ (t at : ℕ) (old m : Machine) (h : IsSprinting t at old m) where
         clock = h.clock;
         few = λ e. count;
         one_more = omega (arith, count);
+        from = h.from;
+      }
+
+  -- and comes to the middle of that cycle
+  inside : (new : Machine) → IsMidway v at (shown new) new.rows.items → vec_len new.rows ≤ vec_len old.rows + 1
+      → vec_capacity new.rows ≡ vec_capacity old.rows → new.bus.io.clock ≡ at → new.count ≤ m.count + 1 → IsSprinted t at true old new
+  inside new midway len room clock more =
+      let count = h.count in
+      record {
+        comes = λ e. cc;
+        midway = λ e. midway;
+        same = λ e. cc;
+        len = len;
+        room = room;
+        script = λ e. cc;
+        going = λ e. cc;
+        awake = λ e. cc;
+        free = λ e. cc;
+        clock = clock;
+        few = λ e. cc;
+        one_more = omega (arith, more, count);
         from = h.from;
       }
 
@@ -149,23 +153,9 @@ module _ (t at : ℕ) (old m : Machine) (h : IsSprinting t at old m) where
         let on = goes_on at (shown m) h.free h.awake none in
         let few = one_row at (shown m) m.rows.items new.rows.items (a.rows ∙ ap (λ (l : List Row). m.rows.items ++ l) on.1) in
         let more = one_more at (shown m) (shown new) (a.state ∙ on.0) in
-        let count = h.count in
         let len : vec_len m.rows ≡ vec_len old.rows = ap (λ x. vec_len x) h.rows in
-        record {
-          comes = λ e. absurd (false≢true (sym e));
-          midway = λ e. ended v at 0 m new m.rows.items h.comes h.going h.free h.awake none a refl;
-          same = λ e. absurd (false≢true (sym e));
-          len = omega (arith, few, len);
-          room = a.room ∙ ap (λ x. vec_capacity x) h.rows;
-          script = λ e. absurd (false≢true (sym e));
-          going = λ e. absurd (false≢true (sym e));
-          awake = λ e. absurd (false≢true (sym e));
-          free = λ e. absurd (false≢true (sym e));
-          clock = a.clock ∙ h.clock;
-          few = λ e. absurd (false≢true (sym e));
-          one_more = omega (arith, more, count);
-          from = h.from;
-        }
+        let midway = ended v at 0 m new m.rows.items h.comes h.going h.free h.awake none a refl in
+        inside new midway (omega (arith, few, len)) (a.room ∙ ap (λ x. vec_capacity x) h.rows) (a.clock ∙ h.clock) more
 
   module _ (n : ℕ) (w : Machine) (none : due (shown m) ≡ None) (p : IsStepped at n m w) where
     pub breaks : IsSprinted t at true old (let x : Machine = record w { wait = n - 1 } in x)
@@ -173,24 +163,10 @@ module _ (t at : ℕ) (old m : Machine) (h : IsSprinting t at old m) where
         let rows : w.rows.items ≡ m.rows.items = ap (λ x. x.items) p.same in
         let u : NodeState = record (shown w) { wait = n - 1 } in
         let mid : IsMidway v at u m.rows.items = began v at n m w m.rows.items h.comes h.going h.free h.awake none p in
-        let count = h.count in
         let more = p.count in
         let len : vec_len w.rows ≡ vec_len old.rows = ap (λ x. vec_len x) (p.same ∙ h.rows) in
-        record {
-          comes = λ e. absurd (false≢true (sym e));
-          midway = λ e. subst (IsMidway v at u) (sym rows) mid;
-          same = λ e. absurd (false≢true (sym e));
-          len = omega (arith, len);
-          room = ap (λ x. vec_capacity x) (p.same ∙ h.rows);
-          script = λ e. absurd (false≢true (sym e));
-          going = λ e. absurd (false≢true (sym e));
-          awake = λ e. absurd (false≢true (sym e));
-          free = λ e. absurd (false≢true (sym e));
-          clock = p.clock ∙ h.clock;
-          few = λ e. absurd (false≢true (sym e));
-          one_more = omega (arith, more, count);
-          from = h.from;
-        }
+        inside (let x : Machine = record w { wait = n - 1 } in x) (subst (IsMidway v at u) (sym rows) mid) (omega (arith, len))
+        (ap (λ x. vec_capacity x) (p.same ∙ h.rows)) (p.clock ∙ h.clock) (omega (arith, more))
 
     pub goes : (bus : NodeBus) → IsCalm at n (shown w)
         → (let x : Machine = record w { bus = bus } in shown x) ≡ (let s : NodeState = record (shown w) { board = timers_leap at n (shown w).board } in s)
@@ -216,6 +192,11 @@ module _ (t at : ℕ) (old m : Machine) (h : IsSprinting t at old m) where
           count = omega (arith, count, more, some);
           rows = p.same ∙ h.rows;
         }
+
+-- none at all
+pub stands : (t : ℕ) (m : Machine) → m.stop ≡ None → m.wait ≡ 0 → m.asleep ≡ false → m.bus.io.clock ≡ t
+    → m.count ≤ LAST_CYCLE + t → IsSprinted t t false m m
+stands t m going free awake clock count = stays t t m m (begins t m going free awake clock count)
 
 -- a step whose cycles pass whole
 pub steps_on : (t at n : ℕ) (old m w x : Machine) → IsSprinting t at old m → due (shown m) ≡ None → IsStepped at n m w

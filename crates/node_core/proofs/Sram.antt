@@ -201,14 +201,12 @@ falls flash _ cpu bus h = absurd (false≢true h)
 
 -- ---- what an instruction on this core leaves
 no_sei : (o : Op) (cpu : Cpu) → accesses_sram o cpu ≡ true → is_sei o ≡ false
-no_sei (op.Bset s) cpu h = absurd (false≢true h)
-no_sei op.Reti cpu h = absurd (false≢true h)
-no_sei _ cpu h = refl
+no_sei op.Nop cpu h = refl
+no_sei _ cpu h = cc
 
 no_branch_sei : (o : Op) (cpu : Cpu) → falls_through o cpu ≡ true → is_sei o ≡ false
-no_branch_sei (op.Bset s) cpu h = absurd (false≢true h)
-no_branch_sei op.Reti cpu h = absurd (false≢true h)
-no_branch_sei _ cpu h = refl
+no_branch_sei op.Nop cpu h = refl
+no_branch_sei _ cpu h = cc
 
 -- by whether it is a branch that is not taken, and whether it accesses a byte of the SRAM
 module _ (o : Op) (cpu : Cpu) (P : After → Type 0) (fall : falls_through o cpu ≡ true → P after.Single) (sram : accesses_sram o cpu ≡ true → P after.Nothing) (other : P (after_of o)) where

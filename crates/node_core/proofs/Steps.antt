@@ -166,11 +166,7 @@ leaves_flag flash o from to bus there k (Some (Ok d)) e some step is i =
   where
     apart : (k : After) (d : Done) → leaves_i (step_of k (Some (Ok d))) ≡ true → may_change k ≡ false
     apart after.Single d h = refl
-    apart after.Nothing d h = refl
-    apart after.Back d h = refl
-    apart after.Loaded d h = refl
-    apart after.Store d h = absurd (false≢true h)
-    apart after.Enabled d h = absurd (false≢true h)
+    apart _ d h = cc
 
 -- and by which the board does
 pub leaves_devices : (flash : List ℕ) (o : Op) (from to : Cpu) (bus there : NodeBus) (k : After) (x : Option (Result Done StopCause)) → k ≡ after_at o from
@@ -183,11 +179,7 @@ leaves_devices flash o from to bus there k (Some (Ok d)) e some step is i =
   where
     apart : (k : After) (d : Done) → leaves_board (step_of k (Some (Ok d))) ≡ true → may_access k ≡ false
     apart after.Single d h = refl
-    apart after.Nothing d h = refl
-    apart after.Back d h = refl
-    apart after.Loaded d h = absurd (false≢true h)
-    apart after.Store d h = absurd (false≢true h)
-    apart after.Enabled d h = absurd (false≢true h)
+    apart _ d h = cc
 
 -- what is not executed leaves the parts of the core as they were
 pub as_it_was : (regs to : Registers) (core on : Core) (bus there : NodeBus) (x : Option (Result Done StopCause)) → IfNone x ((to ≡ regs) × (on ≡ core) × (there ≡ bus))
