@@ -26,6 +26,8 @@ QUALIFIERS = ("DW_TAG_const_type", "DW_TAG_volatile_type", "DW_TAG_restrict_type
 # first), and both (`__memx`), where the highest bit tells the data space.
 DATA, FIRST_SEGMENT, BOTH = 0, 1, 7
 
+NAMELESS = "(unnamed)"  # a member that C gives no name
+
 MOST_ELEMENTS = 24  # of an array that are shown, runs of one value taken together
 MOST_DEPTH = 8
 
@@ -480,7 +482,7 @@ class Unit:
     def member(self, entry: Any) -> Member:
         type_ = self.type_of(entry)
         is_base = entry.tag == "DW_TAG_inheritance"
-        name = type_.name if is_base else text_in(self.attribute(entry, "DW_AT_name") or b"(unnamed)")
+        name = type_.name if is_base else text_in(self.attribute(entry, "DW_AT_name") or NAMELESS.encode())
         bits = self.attribute(entry, "DW_AT_bit_size")
         if bits is None:
             return Member(name, elf_files.member_offset(entry), type_)

@@ -20,6 +20,10 @@ class Range(NamedTuple):
         none = self.may_be_none or other.may_be_none
         return Range(min(self.low, other.low), max(self.high, other.high), none)
 
+    def mapped(self, work: Callable[[Number], Number]) -> "Range":
+        """What a work that never falls makes of it."""
+        return Range(work(self.low), work(self.high), self.may_be_none)
+
     def is_known(self) -> bool:
         return math.isfinite(self.low) and math.isfinite(self.high)
 
