@@ -2,6 +2,7 @@
 byte by byte. Without a simulator and a compiler."""
 import ast
 import itertools
+import math
 import random
 import re
 import struct
@@ -179,6 +180,14 @@ def test_what_takes_whole_numbers_is_refused_before_the_run(text):
 @pytest.mark.parametrize("text", ["(row[wide][0] & 1) == 0", "row[wide][1] % 2 == 0", "(wide / (wide - 7) | 1) > 0"])
 def test_bits_of_what_is_no_number_are_no_number(text):
     assert not holds(text, wide=7) and holds(f"!({text})", wide=7)
+
+
+def test_nan_differs_from_each_number_as_in_c():
+    """No number fulfils a comparison; C's NaN fulfils `!=`, and counts as true."""
+    assert holds("ratio != 3 && ratio != ratio && ratio && !(ratio < 3)", ratio=math.nan)
+    assert not holds("ratio == ratio || ratio < 3 || ratio * 2 >= 3 || !ratio", ratio=math.nan)
+    assert not holds("ratio != ratio", ratio=1.5)
+    read("wide != 3 || ratio != ratio")
 
 
 def test_a_shift_by_more_than_a_number_has_bits_is_no_number():

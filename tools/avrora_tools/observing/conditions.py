@@ -10,7 +10,7 @@ import re
 import struct
 from collections.abc import Callable, Mapping, Sequence
 from dataclasses import dataclass
-from typing import NamedTuple, TypeGuard
+from typing import Any, NamedTuple, TypeGuard
 
 from avrora_tools import files
 from avrora_tools.errors import BadInput
@@ -26,6 +26,7 @@ MOST_BITS = 16  # of all quantities of a condition, where each value is tried
 LONG_FLOAT = 8  # bytes of a floating-point number that has more digits than `float`
 
 Number = int | float
+Found = Number | None  # None of what is no number, as what is divided by 0
 Values = Mapping[str, Number]
 
 
@@ -41,24 +42,37 @@ class Term(NamedTuple):
     """What a part of a condition comes to; between which numbers that lies, whatever the values are; and what it is in
     C."""
 
-    of: Callable[[Values], Number]
+    of: Callable[[Values], Found]
     range: Range
     kind: Kind = Kind.WHOLE
 
     def is_true(self, values: Values) -> bool:
         """What is no number is not true."""
         number = self.of(values)
-        return number != 0 and number == number
+        return number is not None and number != 0
 
+    def through(self, work: Callable[[Number], Found]) -> Callable[[Values], Found]:
+        """What a work makes of the number, if it is one."""
 
-def differ(a: Number, b: Number) -> bool:
-    """Also this comparison no number fulfils where one of both is none."""
-    return a != b and a == a and b == b
+        def found(values: Values) -> Found:
+            number = self.of(values)
+            return None if number is None else work(number)
+
+        return found
+
+    def beside(self, other: "Term", work: Callable[[Any, Any], Found]) -> Callable[[Values], Found]:
+        """What a work makes of two numbers, if both are numbers."""
+
+        def found(values: Values) -> Found:
+            a, b = self.of(values), other.of(values)
+            return None if a is None or b is None else work(a, b)
+
+        return found
 
 
 COMPARISONS: dict[type[ast.cmpop], Callable[[Number, Number], bool]] = {
     ast.Eq: operator.eq,
-    ast.NotEq: differ,
+    ast.NotEq: operator.ne,
     ast.Lt: operator.lt,
     ast.LtE: operator.le,
     ast.Gt: operator.gt,
@@ -75,42 +89,37 @@ def nearest(form: str, number: Number) -> float:
         return math.inf if number > 0 else -math.inf
 
 
-def quotient(a: Number, b: Number) -> Number:
+def quotient(a: Number, b: Number) -> Found:
     """As C divides: whole numbers towards 0. What is divided by 0 is no number."""
     if b == 0:
-        return math.nan
+        return None
     if isinstance(a, float) or isinstance(b, float):
         return a / b
     whole = abs(a) // abs(b)
     return whole if (a < 0) == (b < 0) else -whole
 
 
-def remainder(a: int, b: int) -> Number:
+def remainder(a: int, b: int) -> Found:
     found = quotient(a, b)
-    return found if isinstance(found, float) else a - b * found
+    return None if found is None else a - b * found
 
 
-def shifted(work: Callable[[int, int], int]) -> Callable[[int, int], Number]:
+def shifted(work: Callable[[int, int], int]) -> Callable[[int, int], Found]:
     """What is shifted by less than 0, or by more than any number has bits, is no number."""
-    return lambda a, b: work(a, b) if 0 <= b <= ranges.MOST_SHIFTED else math.nan
+    return lambda a, b: work(a, b) if 0 <= b <= ranges.MOST_SHIFTED else None
 
 
-def of_whole(work: Callable[[int, int], Number]) -> Callable[[Number, Number], Number]:
-    """Of whole numbers: a float is what is no number, and nothing comes of that."""
-    return lambda a, b: math.nan if isinstance(a, float) or isinstance(b, float) else work(a, b)
-
-
-OPERATIONS: dict[type[ast.operator], Callable[[Number, Number], Number]] = {
+OPERATIONS: dict[type[ast.operator], Callable[[Any, Any], Found]] = {
     ast.Add: operator.add,
     ast.Sub: operator.sub,
     ast.Mult: operator.mul,
     ast.Div: quotient,
-    ast.Mod: of_whole(remainder),
-    ast.BitAnd: of_whole(operator.and_),
-    ast.BitOr: of_whole(operator.or_),
-    ast.BitXor: of_whole(operator.xor),
-    ast.LShift: of_whole(shifted(operator.lshift)),
-    ast.RShift: of_whole(shifted(operator.rshift)),
+    ast.Mod: remainder,
+    ast.BitAnd: operator.and_,
+    ast.BitOr: operator.or_,
+    ast.BitXor: operator.xor,
+    ast.LShift: shifted(operator.lshift),
+    ast.RShift: shifted(operator.rshift),
 }
 
 # Operators that take whole numbers alone, as C spells them.
@@ -220,7 +229,7 @@ class Reader:
     def floating(self, term: Term) -> Term:
         """A term as it stands beside a floating-point number."""
         rounded = functools.partial(nearest, "<d" if self.is_long else "<f")
-        return Term(lambda values: rounded(term.of(values)), term.range.mapped(rounded), Kind.FLOAT)
+        return Term(term.through(rounded), term.range.mapped(rounded), Kind.FLOAT)
 
     def alike(self, a: Term, b: Term) -> tuple[Term, Term]:
         """Terms beside one another: both are floating-point numbers where one is."""
@@ -256,7 +265,7 @@ class Reader:
             raise BadInput(f"`{OF_WHOLE[kind]}` takes whole numbers")
         if kind in SHIFTS and (b.range.high < 0 or b.range.low > ranges.MOST_SHIFTED):
             raise BadInput(f"`{OF_WHOLE[kind]}` takes 0 to {ranges.MOST_SHIFTED} behind it")
-        found = Term(lambda values: work(a.of(values), b.of(values)), lies(a.range, b.range), made)
+        found = Term(a.beside(b, work), lies(a.range, b.range), made)
         return self.floating(found) if made is Kind.FLOAT else found
 
     def joined(self, tree: ast.BoolOp, depth: int) -> Term:
@@ -271,13 +280,12 @@ class Reader:
         if isinstance(tree.op, ast.Not):
             return negated(term)
         if isinstance(tree.op, ast.USub):
-            return term._replace(of=lambda values: -term.of(values), range=ranges.minus(term.range))
+            return term._replace(of=term.through(operator.neg), range=ranges.minus(term.range))
         if isinstance(tree.op, ast.UAdd):
             return term
         if term.kind is not Kind.WHOLE:
             raise BadInput("`~` takes whole numbers")
-        flip = of_whole(lambda a, _: ~a)
-        return Term(lambda values: flip(term.of(values), 0), ranges.inverted(term.range))
+        return Term(term.through(lambda number: ~int(number)), ranges.inverted(term.range))
 
     def compared(self, tree: ast.Compare, depth: int) -> Term:
         sides = [tree.left, *tree.comparators]
@@ -289,9 +297,10 @@ class Reader:
                 raise BadInput("a comparison is one of ==, !=, <, <=, >, >=")
             works.append(COMPARISONS[type(one)])
         pairs = list(map(self.alike, terms, terms[1:]))
+        parts = [a.beside(b, work) for work, (a, b) in zip(works, pairs)]
 
         def holds(values: Values) -> int:
-            return int(all(work(a.of(values), b.of(values)) for work, (a, b) in zip(works, pairs)))
+            return int(all(part(values) for part in parts))
 
         spelling = [ast.dump(one) for one in sides]
         found = [
@@ -341,9 +350,9 @@ class Reader:
         terms = [self.part(f"{name}[{place}]", behind, depth + 1) for place in range(whole.count)]
         self.within_element = outer
 
-        def chosen(values: Values) -> Number:
+        def chosen(values: Values) -> Found:
             place = number.of(values)
-            return terms[int(place)].of(values) if place in range(len(terms)) else math.nan
+            return None if place is None or place not in range(len(terms)) else terms[int(place)].of(values)
 
         found = functools.reduce(Range.joined, (term.range for term in terms))
         is_there = not number.range.may_be_none and 0 <= number.range.low and number.range.high < whole.count
