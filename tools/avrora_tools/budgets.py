@@ -83,12 +83,17 @@ def account(node: Spent, currents: Currents, byte_time: int, hz: float, radio: R
 
 
 def shares(node: Spent, byte_time: int, radio: Radio) -> tuple[int, int, int]:
-    """In how many cycles a node's radio sent, was else selected, and was not. A byte is on its way also where the radio
-    is no longer selected."""
+    """In how many cycles a node's radio sent, listened, and did neither. A byte is on its way also where the radio is no
+    longer selected."""
     running = node.total() - node.stopped
     on_air = min(sent(node) * byte_time, running)
-    listening = max(0, radio.selected - on_air)
-    return on_air, listening, max(0, running - on_air - listening)
+    return on_air, radio.listened, max(0, running - on_air - radio.listened)
+
+
+def always_selected(node: Spent, byte_time: int) -> Radio:
+    """A radio that listens whenever it does not send."""
+    running = node.total() - node.stopped
+    return Radio(max(0, running - sent(node) * byte_time))
 
 
 def listening_cycle(node: Spent, byte_time: int, radio: Radio) -> float:

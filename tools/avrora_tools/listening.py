@@ -1,10 +1,13 @@
-"""For how long each node's radio was selected, which no report tells: the scenario is run again, and both registers of
-the pin that selects the radio are watched (docs/AIR.md: PB0 an output, and low)."""
+"""For how long each node's radio listened, which no report tells: the scenario is run again, and both registers of the
+pin that selects the radio are watched (docs/AIR.md: PB0 an output, and low). While a byte is on the air its radio does
+not listen, selected or not."""
+import heapq
 import os
+import re
 import tempfile
 from collections.abc import Iterator, Mapping, Sequence
 from dataclasses import dataclass, field
-from typing import Any
+from typing import Any, NamedTuple
 
 from avrora_tools.observing.places import Change, Kind, Place, change_of, text_of
 from avrora_tools.profiles import Spent
@@ -14,14 +17,21 @@ from avrora_tools.sweeping.simulation import Simulator, scenario_text
 
 PORTB, DDRB = 0x38, 0x37  # data addresses
 PIN = 1
-STRETCH = 64  # epochs that one call watches, so that what it writes is no more than memory has room for
+STRETCH = 64  # epochs that one call runs, so that what it writes is no more than memory has room for
+
+SENT = re.compile(rb"^(\d+) (\d+) sent ", re.MULTILINE)
 
 
 @dataclass(frozen=True)
 class Radio:
-    """In how many of the cycles of a span a node's radio was selected."""
+    """In how many of the cycles of a span a node's radio listened."""
 
-    selected: int
+    listened: int
+
+
+class Send(NamedTuple):
+    cycle: int
+    node: int
 
 
 @dataclass
@@ -32,15 +42,20 @@ class Pin:
     last: int
     registers: dict[int, int] = field(default_factory=lambda: {PORTB: 0, DDRB: 0})  # as at reset
     since: int = 0  # up to here they are counted
-    selected: int = 0
+    sends_until: int = 0
+    listened: int = 0
 
     def is_selected(self) -> bool:
         return bool(self.registers[DDRB] & ~self.registers[PORTB] & PIN)
 
     def count_to(self, cycle: int) -> None:
         if self.is_selected():
-            self.selected += max(0, min(cycle, self.last) - max(self.since, self.first))
+            self.listened += max(0, min(cycle, self.last) - max(self.since, self.first, self.sends_until))
         self.since = cycle
+
+    def send(self, cycle: int, byte_time: int) -> None:
+        self.count_to(cycle)
+        self.sends_until = cycle + byte_time
 
     def change(self, cycle: int, address: int, byte: int) -> None:
         """A register gets a byte in this cycle, in which the radio comes behind the processor."""
@@ -54,16 +69,20 @@ def watched_radios(
     """Of each node, whose report of a span is given."""
     first, end = span
     pins = [Pin(first, end - node.stopped) for node in nodes]
-    for change in changes(simulator, scenario, document, end):
-        if change.byte is not None:
-            pins[change.place.node].change(change.cycle, change.place.address, change.byte)
+    for event in events(simulator, scenario, document, end):
+        if isinstance(event, Send):
+            pins[event.node].send(event.cycle, scenario.byte_time)
+        elif event.byte is not None:
+            pins[event.place.node].change(event.cycle, event.place.address, event.byte)
     for pin in pins:
         pin.count_to(end)
-    return [Radio(pin.selected) for pin in pins]
+    return [Radio(pin.listened) for pin in pins]
 
 
-def changes(simulator: Simulator, scenario: Scenario, document: Mapping[str, Any], end: int) -> Iterator[Change]:
-    """The changes of the pins' registers from reset on and before a cycle."""
+def events(
+    simulator: Simulator, scenario: Scenario, document: Mapping[str, Any], end: int
+) -> Iterator[Change | Send]:
+    """The changes of the pins' registers and the sends from reset on and before a cycle, in order of cycle."""
     with tempfile.TemporaryDirectory(prefix="avrora-energy-") as folder:
         path, places, state = (os.path.join(folder, name) for name in ("s.toml", "places", "state"))
         watched = [Place(node, Kind.BYTE, at) for node in range(len(scenario.images)) for at in (DDRB, PORTB)]
@@ -74,7 +93,13 @@ def changes(simulator: Simulator, scenario: Scenario, document: Mapping[str, Any
         for begin in range(0, end, STRETCH * EPOCH):
             until = min(begin + STRETCH * EPOCH, end)
             output = simulator.call("watch", path, str(begin), str(until), places, *begun)
-            yield from (change_of(line) for line in output.decode("ascii", "replace").splitlines(keepends=True))
+            changes = [change_of(line) for line in output.decode("ascii", "replace").splitlines(keepends=True)]
+            if until < end:
+                rows = simulator.call("head", path, str(STRETCH), *begun)
+            else:
+                rows = simulator.call(*(("resume", path, *begun) if begun else ("run", "--plain", path)))
+            sends = [Send(int(cycle), int(node)) for cycle, node in SENT.findall(rows) if int(cycle) < end]
+            yield from heapq.merge(changes, sends, key=lambda event: event.cycle)
             if until < end:
                 saved = simulator.call("save", path, str(STRETCH), *begun)
                 with open(state, "wb") as store:

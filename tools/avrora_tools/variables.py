@@ -331,7 +331,8 @@ def place_in(type_: Type, offset: int) -> str:
     if isinstance(type_, Structure):
         for member in type_.members:
             if member.at <= offset < member.at + member.type.size:
-                return f".{member.name}{place_in(member.type, offset - member.at)}"
+                name = "" if member.name == NAMELESS else f".{member.name}"
+                return f"{name}{place_in(member.type, offset - member.at)}"
     return f"+{offset}" if offset else ""
 
 

@@ -27,6 +27,7 @@ from avrora_tools.variables import (
     Base,
     Member,
     Structure,
+    place_in,
 )
 from support import SEED
 
@@ -221,6 +222,7 @@ def test_members_of_what_has_no_name_are_named_as_in_c():
     names = ["box.count", "box.first", "box.both", "box.rest", "box.in[0]", "box.in[1]"]
     assert [it.name for it in PLAIN.matching("box")] == names
     assert read("box.in[1] == -2 && box.rest > box.both").named[0].name == "box.in[1]"
+    assert [place_in(VARIABLES["box"].type, at) for at in (0, 1, 3)] == [".count", ".first", ".in[1]"]
     with pytest.raises(BadInput, match="no member `none`, but `count`, `first`, `both`, `rest`, `in`"):
         PLAIN.quantity("box.none")
 

@@ -9,6 +9,7 @@ from avrora_tools import listening
 from avrora_tools.budgets import (
     Currents,
     account,
+    always_selected,
     duty_cycle,
     listening_cycle,
     milliampere_hours,
@@ -60,7 +61,7 @@ def test_the_bytes_that_were_sent_are_what_the_charge_has_beside_the_cycles():
 
 def test_the_account_of_a_node():
     table = table_of(CURRENTS, "c")
-    zero, one = (account(node, table.common, 256, table.hz, Radio(node.total() - node.stopped)) for node in nodes())
+    zero, one = (account(node, table.common, 256, table.hz, always_selected(node, 256)) for node in nodes())
     # 300 ms at 8 mA; 500 asleep and 200 unknown at 2 mA at least, at 8 at most; 512 ms sending, the other 488
     # listening.
     assert astuple(zero) == pytest.approx((2.4, 1.4, 10.24, 4.88, 0, 1.2))
@@ -75,10 +76,10 @@ def test_a_radio_that_is_not_selected_does_not_listen():
     """600 cycles of 1,000 selected, of which 512 are those of sends."""
     table = table_of(CURRENTS + "off = 1\n", "c")
     node = next(iter(nodes()))
-    found = account(node, table.common, 256, table.hz, Radio(600))
+    found = account(node, table.common, 256, table.hz, Radio(88))
     assert (found.sending, found.listening, found.off) == pytest.approx((10.24, 0.88, 0.4))
     assert found.unknown == pytest.approx(1.2)
-    assert listening_cycle(node, 256, Radio(600)) == pytest.approx(0.088)
+    assert listening_cycle(node, 256, Radio(88)) == pytest.approx(0.088)
     assert account(node, table.common, 256, table.hz, Radio(0)).listening == 0
 
 
@@ -305,7 +306,20 @@ def test_the_cycles_in_which_a_pin_selects():
     pin = Pin(first=100, last=1_000)
     for cycle, address, byte in [(50, DDRB, 3), (200, PORTB, 0xFF), (300, PORTB, 0xFE), (310, PORTB, 0), (900, DDRB, 2)]:
         pin.change(cycle, address, byte)
-    assert not pin.is_selected() and pin.selected == 100 + 600
+    assert not pin.is_selected() and pin.listened == 100 + 600
     pin.change(950, DDRB, 1)
     pin.count_to(2_000)
-    assert pin.selected == 100 + 600 + 50
+    assert pin.listened == 100 + 600 + 50
+
+
+def test_a_byte_on_the_air_takes_no_time_from_what_was_listened_before():
+    """A driver that selects the radio for each transfer alone sends long after."""
+    pin = Pin(first=0, last=10_000)
+    for cycle, byte in [(0, 0), (1_000, 1), (1_100, 0), (1_150, 1), (3_000, 0)]:
+        pin.change(cycle, PORTB, byte)
+        pin.change(cycle, DDRB, 1)
+        if cycle == 1_100:
+            pin.send(1_120, 3_072)
+    assert pin.listened == 1_000 + 20
+    pin.count_to(5_000)
+    assert pin.listened == 1_000 + 20 + 5_000 - (1_120 + 3_072)

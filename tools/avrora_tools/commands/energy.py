@@ -8,6 +8,7 @@ from avrora_tools.budgets import (
     Account,
     Table,
     account,
+    always_selected,
     duty_cycle,
     listening_cycle,
     milliampere_hours,
@@ -69,7 +70,7 @@ def radios_of(
 ) -> list[Radio]:
     """For how long each radio was selected: by running the scenario again, or with --always-listening all the time."""
     if arguments.always_listening:
-        return [Radio(node.total() - node.stopped) for node in nodes]
+        return [always_selected(node, scenario.byte_time) for node in nodes]
     folder = os.path.dirname(os.path.abspath(arguments.scenario))
     simulator = Simulator(cli.simulator(arguments.avrora), folder, arguments.timeout)
     document = toml.loads(files.read_text(arguments.scenario))

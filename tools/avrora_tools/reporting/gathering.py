@@ -200,7 +200,7 @@ def add_currents(found: Gathered, simulator: Simulator, name: str, always_listen
     if unknown := sorted(set(table.by_node) - set(range(len(nodes)))):
         raise BadInput(f"{files.shown(name)}: there is no node {unknown[0]}")
     if always_listening:
-        radios = [Radio(node.total() - node.stopped) for node in nodes]
+        radios = [budgets.always_selected(node, found.scenario.byte_time) for node in nodes]
     else:
         radios = watched_radios(simulator, found.scenario, found.document, (0, found.scenario.cycles), nodes)
     found.table, found.radios = table, radios
