@@ -83,8 +83,8 @@ def account(node: Spent, currents: Currents, byte_time: int, hz: float, radio: R
 
 
 def shares(node: Spent, byte_time: int, radio: Radio) -> tuple[int, int, int]:
-    """In how many cycles a node's radio sent, listened, and did neither. A byte is on its way also where the radio is no
-    longer selected."""
+    """In how many cycles a node's radio sent, listened, and did neither. A byte is on its way also where the radio is
+    no longer selected."""
     running = node.total() - node.stopped
     on_air = min(sent(node) * byte_time, running)
     return on_air, radio.listened, max(0, running - on_air - radio.listened)

@@ -291,9 +291,14 @@ def test_a_pin_written_by_values_and_pointers_of_the_memory(tmp_path, low, high,
 @needs_compiler
 def test_stretches_of_a_run_make_one(tmp_path, monkeypatch):
     """Whatever is watched in one call, also where a window begins within one."""
-    one = [energy(tmp_path, "*port &= 0xFE;", "*port |= 1;", ["-Os"], 700_000, begin)[0] for begin in (0, 300_000)]
+
+    def told():
+        words = ("*port &= 0xFE;", "*port |= 1;", ["-Os"], 700_000)
+        return [energy(tmp_path, *words, begin)[0] for begin in (0, 300_000)]
+
+    one = told()
     monkeypatch.setattr(listening, "STRETCH", 1)
-    assert one == [energy(tmp_path, "*port &= 0xFE;", "*port |= 1;", ["-Os"], 700_000, begin)[0] for begin in (0, 300_000)]
+    assert one == told()
 
 
 @needs_program
@@ -304,7 +309,8 @@ def test_always_listening_runs_nothing(tmp_path):
 
 def test_the_cycles_in_which_a_pin_selects():
     pin = Pin(first=100, last=1_000)
-    for cycle, address, byte in [(50, DDRB, 3), (200, PORTB, 0xFF), (300, PORTB, 0xFE), (310, PORTB, 0), (900, DDRB, 2)]:
+    changes = [(50, DDRB, 3), (200, PORTB, 0xFF), (300, PORTB, 0xFE), (310, PORTB, 0), (900, DDRB, 2)]
+    for cycle, address, byte in changes:
         pin.change(cycle, address, byte)
     assert not pin.is_selected() and pin.listened == 100 + 600
     pin.change(950, DDRB, 1)

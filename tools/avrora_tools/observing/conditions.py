@@ -345,7 +345,7 @@ class Reader:
         if whole.count < 1:
             raise BadInput(f"`{files.printable(name)}` has no elements")
         if number.range.high < 0 or number.range.low >= whole.count:
-            raise BadInput(f"`{files.printable(name)}` has {whole.count} elements, from [0] on, and none of that number")
+            raise BadInput(f"`{files.printable(name)}` has {whole.count} elements, and none is ever of that number")
         outer, self.within_element = self.within_element, True
         terms = [self.part(f"{name}[{place}]", behind, depth + 1) for place in range(whole.count)]
         self.within_element = outer

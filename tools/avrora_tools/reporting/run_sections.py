@@ -323,7 +323,7 @@ def charge_table(run: Gathered, whole: float) -> Html:
             days = between(*hours, ".0f")
         charges = between(budgets.milliampere_hours(account.least), budgets.milliampere_hours(account.most), ".4g")
         rows.append(
-            [node, percent(budgets.duty_cycle(one)), percent((listens, listens)), budgets.sent(one),
+            [node, percent(budgets.duty_cycle(one)), f"{100 * listens:.2f}%", budgets.sent(one),
              between(least, most, ".3f"), charges,
              between(least * budgets.HOURS_A_DAY, most * budgets.HOURS_A_DAY, ".2f"), days]
         )  # fmt: skip
