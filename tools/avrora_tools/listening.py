@@ -86,7 +86,8 @@ def events(
     with tempfile.TemporaryDirectory(prefix="avrora-energy-") as folder:
         path, places, state = (os.path.join(folder, name) for name in ("s.toml", "places", "state"))
         watched = [Place(node, Kind.BYTE, at) for node in range(len(scenario.images)) for at in (DDRB, PORTB)]
-        for name, text in ((path, scenario_text(document)), (places, text_of(watched))):
+        scenario_up_to_end = scenario_text({**document, "cycles": end, "window": [0, 0]})
+        for name, text in ((path, scenario_up_to_end), (places, text_of(watched))):
             with open(name, "w", encoding="utf-8") as file:
                 file.write(text)
         begun: tuple[str, ...] = ()

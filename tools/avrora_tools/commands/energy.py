@@ -101,8 +101,9 @@ def print_table(nodes: list[Spent], accounts: list[Account], radios: list[Radio]
                 if least
                 else " -"
             )
+        listens_text = f"{100 * listened:.2f}%"
         print(
-            f"{name:>7} {percent(duty):>15} {f'{100 * listened:.2f}%':>15} {count:>7,} {between(least, most, '.3f'):>15} "
+            f"{name:>7} {percent(duty):>15} {listens_text:>15} {count:>7,} {between(least, most, '.3f'):>15} "
             f"{between(milliampere_hours(one.least), milliampere_hours(one.most), '.4g'):>21} "
             f"{between(least * HOURS_A_DAY, most * HOURS_A_DAY, '.2f'):>15}{days}"
         )
