@@ -10,7 +10,9 @@ import struct
 import pytest
 
 from avrora_tools import cases
+from avrora_tools.drawings import Drawing, Lane
 from avrora_tools.errors import BadInput
+from avrora_tools.observing import tracks
 from avrora_tools.observing.conditions import Reader, of_python
 from avrora_tools.observing.places import Change, Kind, Place
 from avrora_tools.observing.quantities import Names, Quantity
@@ -313,6 +315,34 @@ def test_a_value_that_is_half_written_as_a_span_begins_is_the_old_one():
     assert turned("wide == 0", first=500) == [(500, True), (502, False)]
     assert turned("wide == 0x1FF", first=502) == [(502, True)]
     assert turned("wide == 0xFF", first=500, torn=True) == [(500, True), (502, False)]
+
+
+class OfTracks:
+    """A network of one node with these names."""
+
+    def selected(self, words, nodes):
+        return {node: [PLAIN.quantity(word) for word in words] for node in nodes}
+
+    def names(self, node):
+        return PLAIN
+
+
+@pytest.mark.parametrize(
+    "first, changes",
+    [
+        (0, [(0, "0"), (502, "511")]),
+        (500, [(500, "0"), (502, "511")]),
+        (501, [(501, "0"), (502, "511")]),
+        (502, [(502, "511")]),
+        (999, [(999, "511")]),
+    ],
+)
+def test_a_track_begins_with_the_old_value_of_one_that_is_half_written(first, changes):
+    drawing = Drawing(None, "x", first)
+    drawing.lanes, drawing.last_cycle = {0: Lane()}, 999
+    tracks.add_to(drawing, Recorded("", "", "", 1_000), OfTracks(), ["wide"])
+    (track,) = drawing.lanes[0].tracks
+    assert [(cycle, track.texts[place]) for cycle, place in track.changes()] == changes
 
 
 def test_what_changes_in_one_cycle_changes_at_once():
