@@ -46,6 +46,7 @@ VARIABLES = {
     "ratio": Quantity("ratio", 0x108, Base("float", 4, FLOAT)),
     "row": Quantity("row", 0x110, Array(Array(U8, 3), 2)),
     "box": Quantity("box", 0x130, Structure("struct box", 4, (Member("count", 0, U8), Member(NAMELESS, 1, EITHER)))),
+    "turn": Quantity("turn", 0x140, Base("complex float", 8, 3)),
     **{name: Quantity(name, 0x120 + place, U8) for place, name in enumerate(("in", "is", "from"))},
 }
 
@@ -210,6 +211,12 @@ def test_an_element_that_is_never_there_is_refused():
     for text in ("row[-1][0] == 3", "row[wide + 2][0] < 3", "row[1][3 + wide] != 0"):
         with pytest.raises(BadInput, match="none is ever of that number"):
             read(text)
+
+
+def test_a_complex_number_is_not_one_number():
+    with pytest.raises(BadInput, match="`turn` is of the type complex float, of which nothing is known"):
+        read("turn == 1")
+    assert PLAIN.matching("turn") == []
 
 
 def test_names_that_python_has_for_other_things():

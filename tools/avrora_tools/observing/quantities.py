@@ -16,6 +16,7 @@ from avrora_tools.observing.places import REGISTERS, SP_LOW, SREG, Kind, Place
 from avrora_tools.programs import Program
 from avrora_tools.states import IO_NAMES
 from avrora_tools.variables import (
+    ENCODINGS,
     NAMELESS,
     OP_ADDR,
     UNSIGNED,
@@ -90,7 +91,11 @@ def bare(type_: Type) -> Type:
 
 
 def is_scalar(type_: Type) -> bool:
-    return not isinstance(bare(type_), (Array, Structure, Opaque)) and type_.size > 0
+    """Whether it is one number; a complex one is not."""
+    plain = bare(type_)
+    if isinstance(plain, Base) and plain.encoding not in ENCODINGS:
+        return False
+    return not isinstance(plain, (Array, Structure, Opaque)) and type_.size > 0
 
 
 @dataclass
