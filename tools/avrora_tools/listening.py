@@ -1,7 +1,6 @@
 """For how long each node's radio listened, which no report tells: the scenario is run again, and both registers of the
 pin that selects the radio are watched (docs/AIR.md: PB0 an output, and low). While a byte is on the air its radio does
 not listen, selected or not."""
-import heapq
 import os
 import re
 import tempfile
@@ -94,13 +93,14 @@ def events(
         for begin in range(0, end, STRETCH * EPOCH):
             until = min(begin + STRETCH * EPOCH, end)
             output = simulator.call("watch", path, str(begin), str(until), places, *begun)
-            changes = [change_of(line) for line in output.decode("ascii", "replace").splitlines(keepends=True)]
+            lines = output.decode("ascii", "replace").splitlines(keepends=True)
+            found: list[Change | Send] = [change_of(line) for line in lines]
             if until < end:
                 rows = simulator.call("head", path, str(STRETCH), *begun)
             else:
                 rows = simulator.call(*(("resume", path, *begun) if begun else ("run", "--plain", path)))
-            sends = [Send(int(cycle), int(node)) for cycle, node in SENT.findall(rows) if int(cycle) < end]
-            yield from heapq.merge(changes, sends, key=lambda event: event.cycle)
+            found += [Send(int(cycle), int(node)) for cycle, node in SENT.findall(rows)]
+            yield from sorted(found, key=lambda event: event.cycle)
             if until < end:
                 saved = simulator.call("save", path, str(STRETCH), *begun)
                 with open(state, "wb") as store:

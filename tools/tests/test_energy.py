@@ -5,7 +5,7 @@ from dataclasses import astuple
 
 import pytest
 
-from avrora_tools import listening
+from avrora_tools import listening, toml
 from avrora_tools.budgets import (
     Currents,
     account,
@@ -19,8 +19,9 @@ from avrora_tools.budgets import (
 )
 from avrora_tools.errors import BadInput
 from avrora_tools.listening import DDRB, PORTB, Pin, Radio
-from avrora_tools.profiles import MonitorReader
+from avrora_tools.profiles import MonitorReader, Spent
 from avrora_tools.scenarios import Scenario
+from avrora_tools.sweeping.simulation import Simulator
 from firmware import PROGRAM, compiled, needs_compiler, needs_program
 from support import TOP, run_tool
 
@@ -299,6 +300,25 @@ def test_stretches_of_a_run_make_one(tmp_path, monkeypatch):
     one = told()
     monkeypatch.setattr(listening, "STRETCH", 1)
     assert one == told()
+
+
+@needs_program
+@pytest.mark.parametrize("stretch", [1, 64])
+def test_bytes_on_the_air_are_no_listening_in_each_stretch(monkeypatch, stretch):
+    """The radios of examples/packet.toml are selected all the time."""
+    folder, first, end = f"{TOP}/examples", 300_000, 700_000
+    words = [PROGRAM, "run", "--plain", "packet.toml"]
+    rows = subprocess.run(words, cwd=folder, capture_output=True, text=True, check=True).stdout
+    scenario = Scenario.load(f"{folder}/packet.toml")
+    wanted = [end - first] * 3
+    for cycle, node in re.findall(r"(?m)^(\d+) (\d) sent ", rows):
+        begun = int(cycle)
+        wanted[int(node)] -= max(0, min(begun + scenario.byte_time, end) - max(begun, first))
+    monkeypatch.setattr(listening, "STRETCH", stretch)
+    with open(f"{folder}/packet.toml", encoding="utf-8") as file:
+        document = toml.loads(file.read())
+    found = listening.watched_radios(Simulator(PROGRAM, folder, 600), scenario, document, (first, end), [Spent()] * 3)
+    assert [radio.listened for radio in found] == wanted and wanted[1] < 400_000
 
 
 @needs_program
