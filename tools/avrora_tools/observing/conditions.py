@@ -151,7 +151,8 @@ C_WORDS = re.compile(
 )
 
 # Names of C that Python has for other things, such as `queue.in`, get this behind them on the way.
-TAKEN = frozenset(keyword.kwlist) - {"and", "or", "not", "True", "False", "None"}
+OF_BOTH = {"if", "else", "for", "while", "break", "continue", "return"}  # which C has too, so that no name is one
+TAKEN = frozenset(keyword.kwlist) - {"and", "or", "not", "True", "False", "None"} - OF_BOTH
 MARK = "__c__"
 
 
