@@ -44,8 +44,7 @@ class Table:
 @dataclass(frozen=True)
 class Account:
     """The charge of a node over a span, in mA s. What the processor drew in cycles without an owner is not known:
-    `unknown` has the difference between awake and asleep all the time, and `asleep` the lower of the two; so of cycles
-    in which it is not known whether the radio was selected."""
+    `unknown` has the difference between awake and asleep all the time, and `asleep` the lower of the two."""
 
     awake: float
     asleep: float
@@ -73,31 +72,34 @@ def account(node: Spent, currents: Currents, byte_time: int, hz: float, radio: R
     seconds = 1 / hz
     on_air, listening, off = shares(node, byte_time, radio)
     lower, higher = sorted((currents.awake, currents.asleep))
-    least, most = sorted((currents.off, currents.listening))
     return Account(
         node.busy() * currents.awake * seconds,
         (node.asleep * currents.asleep + node.lead * lower) * seconds,
         on_air * currents.sending * seconds,
         listening * currents.listening * seconds,
-        (off * currents.off + radio.unknown * least) * seconds,
-        (node.lead * (higher - lower) + radio.unknown * (most - least)) * seconds,
+        off * currents.off * seconds,
+        node.lead * (higher - lower) * seconds,
     )
 
 
 def shares(node: Spent, byte_time: int, radio: Radio) -> tuple[int, int, int]:
-    """In how many cycles a node's radio sent, was else selected, and was not; of the rest it is not known. A byte is on
-    its way also where the radio is no longer selected."""
+    """In how many cycles a node's radio sent, listened, and did neither. A byte is on its way also where the radio is
+    no longer selected."""
     running = node.total() - node.stopped
     on_air = min(sent(node) * byte_time, running)
-    listening = max(0, radio.selected - on_air)
-    return on_air, listening, max(0, running - on_air - listening - radio.unknown)
+    return on_air, radio.listened, max(0, running - on_air - radio.listened)
 
 
-def listening_cycle(node: Spent, byte_time: int, radio: Radio) -> tuple[float, float]:
-    """Which part of its time a node's radio listened: at least and at most."""
+def always_selected(node: Spent, byte_time: int) -> Radio:
+    """A radio that listens whenever it does not send."""
     running = node.total() - node.stopped
-    listening = shares(node, byte_time, radio)[1]
-    return (listening / running, (listening + radio.unknown) / running) if running else (0.0, 0.0)
+    return Radio(max(0, running - sent(node) * byte_time))
+
+
+def listening_cycle(node: Spent, byte_time: int, radio: Radio) -> float:
+    """Which part of its time a node's radio listened."""
+    running = node.total() - node.stopped
+    return shares(node, byte_time, radio)[1] / running if running else 0.0
 
 
 def duty_cycle(node: Spent) -> tuple[float, float]:

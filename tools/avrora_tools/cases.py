@@ -386,9 +386,15 @@ def before(digits: str) -> Span:
 
 
 def is_condition(rest: str) -> bool:
-    """Whether what stands behind `never` is a node and a condition, and no row, whose third word is its kind."""
+    """Whether what stands behind `never` is a node and a condition, and no row: there the second word is a node and the
+    third a kind, and none is an operator."""
     words = rest.split(" ", 3)
-    is_row = len(words) >= 3 and (words[2] in KINDS or words[2][0] in "*{")
+    is_row = (
+        len(words) >= 3
+        and (words[2] in KINDS or words[2][0] in "*{")
+        and words[1][0] in "*{.0123456789"
+        and not re.search("[<>=!&|^%/~]", rest)
+    )
     return bool(re.fullmatch("[0-9]+", words[0])) and not is_row
 
 

@@ -10,9 +10,6 @@ WORDS = 0x10000  # of program memory
 SLEEP, RETI = "sleep", "reti"
 CALLS = ("call", "rcall", "icall")
 
-# Instructions whose first operand is a register that they leave as it is.
-KEEPS_FIRST = frozenset("cp cpc cpi cpse sbrc sbrs bst push".split())
-
 
 class Operand(NamedTuple):
     """How an operand is printed from the bits of its field, and which texts it may have."""

@@ -15,6 +15,7 @@ DATA_SPACE = 0x800000  # where avr-gcc's ELF files put the data space
 OP_ADDR = 0x03
 BOOLEAN, FLOAT, SIGNED, SIGNED_CHAR, UNSIGNED, UNSIGNED_CHAR = 0x02, 0x04, 0x05, 0x06, 0x07, 0x08
 SIGNED_FIXED, UNSIGNED_FIXED = 0x0D, 0x0E
+ENCODINGS = (BOOLEAN, FLOAT, SIGNED, SIGNED_CHAR, UNSIGNED, UNSIGNED_CHAR, SIGNED_FIXED, UNSIGNED_FIXED)  # of one number
 
 # Of floating-point numbers by their bytes: how `struct` reads them, how many digits tell one from the next, and how
 # many bits the fraction has.
@@ -25,6 +26,8 @@ QUALIFIERS = ("DW_TAG_const_type", "DW_TAG_volatile_type", "DW_TAG_restrict_type
 # Address spaces of avr-gcc, by DW_AT_address_class: the data space, segments of 64 KiB of the flash (`__flash` is the
 # first), and both (`__memx`), where the highest bit tells the data space.
 DATA, FIRST_SEGMENT, BOTH = 0, 1, 7
+
+NAMELESS = "(unnamed)"  # a member that C gives no name
 
 MOST_ELEMENTS = 24  # of an array that are shown, runs of one value taken together
 MOST_DEPTH = 8
@@ -329,7 +332,8 @@ def place_in(type_: Type, offset: int) -> str:
     if isinstance(type_, Structure):
         for member in type_.members:
             if member.at <= offset < member.at + member.type.size:
-                return f".{member.name}{place_in(member.type, offset - member.at)}"
+                name = "" if member.name == NAMELESS else f".{member.name}"
+                return f"{name}{place_in(member.type, offset - member.at)}"
     return f"+{offset}" if offset else ""
 
 
@@ -480,7 +484,7 @@ class Unit:
     def member(self, entry: Any) -> Member:
         type_ = self.type_of(entry)
         is_base = entry.tag == "DW_TAG_inheritance"
-        name = type_.name if is_base else text_in(self.attribute(entry, "DW_AT_name") or b"(unnamed)")
+        name = type_.name if is_base else text_in(self.attribute(entry, "DW_AT_name") or NAMELESS.encode())
         bits = self.attribute(entry, "DW_AT_bit_size")
         if bits is None:
             return Member(name, elf_files.member_offset(entry), type_)

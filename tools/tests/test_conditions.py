@@ -2,21 +2,40 @@
 byte by byte. Without a simulator and a compiler."""
 import ast
 import itertools
+import math
 import random
+import re
+import struct
 
 import pytest
 
+from avrora_tools import cases
+from avrora_tools.drawings import Drawing, Lane
 from avrora_tools.errors import BadInput
+from avrora_tools.observing import tracks
 from avrora_tools.observing.conditions import Reader, of_python
 from avrora_tools.observing.places import Change, Kind, Place
 from avrora_tools.observing.quantities import Names, Quantity
 from avrora_tools.observing.running import Run
 from avrora_tools.observing.searching import Watched, turns
 from avrora_tools.states import NAMES, Node, State
-from avrora_tools.variables import FLOAT, SIGNED_CHAR, UNSIGNED, UNSIGNED_CHAR, Array, Base
+from avrora_tools.variables import (
+    FLOAT,
+    NAMELESS,
+    SIGNED_CHAR,
+    UNSIGNED,
+    UNSIGNED_CHAR,
+    Array,
+    Base,
+    Member,
+    Structure,
+    place_in,
+)
 from support import SEED
 
 U8, I8, U16 = Base("uint8_t", 1, UNSIGNED_CHAR), Base("int8_t", 1, SIGNED_CHAR), Base("uint16_t", 2, UNSIGNED)
+PAIR = Structure("struct", 3, (Member("both", 0, U8, 4, 0), Member("rest", 0, U8, 4, 4), Member("in", 1, Array(I8, 2))))
+EITHER = Structure("union", 3, (Member("first", 0, U8), Member(NAMELESS, 0, PAIR)))
 VARIABLES = {
     "wide": Quantity("wide", 0x100, U16),
     "count": Quantity("count", 0x102, U8),
@@ -26,6 +45,9 @@ VARIABLES = {
     "next": Quantity("next", 0x102, U8, 1, 1),
     "ratio": Quantity("ratio", 0x108, Base("float", 4, FLOAT)),
     "row": Quantity("row", 0x110, Array(Array(U8, 3), 2)),
+    "box": Quantity("box", 0x130, Structure("struct box", 4, (Member("count", 0, U8), Member(NAMELESS, 1, EITHER)))),
+    "turn": Quantity("turn", 0x140, Base("complex float", 8, 3)),
+    **{name: Quantity(name, 0x120 + place, U8) for place, name in enumerate(("in", "is", "from"))},
 }
 
 
@@ -33,7 +55,7 @@ class Plain(Names):
     """These names, without a program."""
 
     def head_of(self, name):
-        head = name.partition("[")[0]
+        head = re.split(r"[.\[]", name, maxsplit=1)[0]
         if head not in VARIABLES:
             raise BadInput(f"no variable {head}")
         return VARIABLES[head], len(head)
@@ -144,6 +166,78 @@ def test_digits_behind_a_point_are_not_octal(text, below, above):
     assert holds(text, ratio=below) and not holds(text, ratio=above)
 
 
+def test_floats_have_four_bytes_as_those_of_avr_gcc():
+    """The variable holds what the compiler makes of 0.1."""
+    tenth = struct.unpack("<f", struct.pack("<f", 0.1))[0]
+    assert holds("ratio == 0.1 && ratio * 3 == 0.3 + 1e-9", ratio=tenth)
+    assert holds("row[0][0] + 16777210 == ratio", ratio=16777216.0) and not holds("ratio != 16777217", ratio=16777216.0)
+    assert not holds("ratio == 0.1", ratio=0.1000001)
+    assert holds("ratio * 1e30 * 1e30 > 1e38", ratio=1.0)
+
+
+@pytest.mark.parametrize(
+    "text", ["ratio % 2 < 1", "wide & ratio", "~ratio == 1", "(wide << 0.5) == 1", "ratio ^ 1.5 || wide"]
+)
+def test_what_takes_whole_numbers_is_refused_before_the_run(text):
+    with pytest.raises(BadInput, match="takes whole numbers"):
+        read(text)
+
+
+@pytest.mark.parametrize("text", ["(row[wide][0] & 1) == 0", "row[wide][1] % 2 == 0", "(wide / (wide - 7) | 1) > 0"])
+def test_bits_of_what_is_no_number_are_no_number(text):
+    assert not holds(text, wide=7) and holds(f"!({text})", wide=7)
+
+
+def test_nan_differs_from_each_number_as_in_c():
+    """No number fulfils a comparison; C's NaN fulfils `!=`, and counts as true."""
+    assert holds("ratio != 3 && ratio != ratio && ratio && !(ratio < 3)", ratio=math.nan)
+    assert not holds("ratio == ratio || ratio < 3 || ratio * 2 >= 3 || !ratio", ratio=math.nan)
+    assert not holds("ratio != ratio", ratio=1.5)
+    read("wide != 3 || ratio != ratio")
+
+
+def test_a_shift_by_more_than_a_number_has_bits_is_no_number():
+    assert not holds("(1 << wide) >= 0", wide=64) and holds("(1 << wide) >= 0", wide=63)
+    assert not holds("(wide >> level) >= 0", wide=5, level=-1)
+    with pytest.raises(BadInput, match="takes 0 to 63"):
+        read("wide << 64 == 0")
+
+
+def test_characters_are_signed_as_those_of_avr_gcc():
+    assert holds("level == '\\xFF' && level < 'A'", level=-1) and holds("level == '\\377'", level=-1)
+
+
+def test_an_element_that_is_never_there_is_refused():
+    for text in ("row[-1][0] == 3", "row[wide + 2][0] < 3", "row[1][3 + wide] != 0"):
+        with pytest.raises(BadInput, match="none is ever of that number"):
+            read(text)
+
+
+def test_a_complex_number_is_not_one_number():
+    with pytest.raises(BadInput, match="`turn` is of the type complex float, of which nothing is known"):
+        read("turn == 1")
+    assert PLAIN.matching("turn") == []
+
+
+def test_names_that_python_has_for_other_things():
+    assert holds("in == 3 && is != in && !from", **{"in": 3, "is": 4, "from": 0})
+    with pytest.raises(BadInput, match="^`in` is a value"):
+        read("in.x == 3")
+    with pytest.raises(BadInput, match="is not a condition"):
+        read("wide in row")
+
+
+def test_members_of_what_has_no_name_are_named_as_in_c():
+    first, rest, last = (PLAIN.quantity(f"box.{name}") for name in ("first", "rest", "in[1]"))
+    assert (first.address, rest.address, rest.bits, rest.low_bit, last.address) == (0x131, 0x131, 4, 4, 0x133)
+    names = ["box.count", "box.first", "box.both", "box.rest", "box.in[0]", "box.in[1]"]
+    assert [it.name for it in PLAIN.matching("box")] == names
+    assert read("box.in[1] == -2 && box.rest > box.both").named[0].name == "box.in[1]"
+    assert [place_in(VARIABLES["box"].type, at) for at in (0, 1, 3)] == [".count", ".first", ".in[1]"]
+    with pytest.raises(BadInput, match="no member `none`, but `count`, `first`, `both`, `rest`, `in`"):
+        PLAIN.quantity("box.none")
+
+
 def test_octal_numbers_are_those_of_c():
     assert holds("wide == 010 && count == 00 && wide != 10", wide=8, count=0)
     assert holds("wide == 017u && row[01][02] == 7", wide=15)
@@ -177,6 +271,17 @@ def test_ranges_have_all_that_a_term_may_be():
             both += 1
             assert not term.range.is_true() and not term.range.is_false(), f"{text} AVRORA_SEED={SEED}"
     assert both > 50
+
+
+def test_a_condition_behind_never_is_no_row(tmp_path):
+    path = tmp_path / "a.expect"
+    texts = ["wide * 2 > 9", "(row[0][1] * 2) / 3 == 4", "3 * wide == 12", "count", "!count"]
+    rows = ["0 * serial 72", "* 3 sent *", "5 {0,1} * 72", "0 3 * *", "9..12 0 instr 006E ldd r0, Y+3"]
+    lines = ["run a.toml", *(f"never 0 {it}" for it in texts), *(f"never {it}" for it in rows)]
+    path.write_text("\n".join(lines) + "\n")
+    case = cases.read_case(str(path))
+    assert [it.text for it in case.conditions] == texts
+    assert [it.pattern.text for it in case.statements if isinstance(it, cases.Never)] == rows
 
 
 # ---- when they turn
@@ -217,6 +322,34 @@ def test_a_value_that_is_half_written_as_a_span_begins_is_the_old_one():
     assert turned("wide == 0", first=500) == [(500, True), (502, False)]
     assert turned("wide == 0x1FF", first=502) == [(502, True)]
     assert turned("wide == 0xFF", first=500, torn=True) == [(500, True), (502, False)]
+
+
+class OfTracks:
+    """A network of one node with these names."""
+
+    def selected(self, words, nodes):
+        return {node: [PLAIN.quantity(word) for word in words] for node in nodes}
+
+    def names(self, node):
+        return PLAIN
+
+
+@pytest.mark.parametrize(
+    "first, changes",
+    [
+        (0, [(0, "0"), (502, "511")]),
+        (500, [(500, "0"), (502, "511")]),
+        (501, [(501, "0"), (502, "511")]),
+        (502, [(502, "511")]),
+        (999, [(999, "511")]),
+    ],
+)
+def test_a_track_begins_with_the_old_value_of_one_that_is_half_written(first, changes):
+    drawing = Drawing(None, "x", first)
+    drawing.lanes, drawing.last_cycle = {0: Lane()}, 999
+    tracks.add_to(drawing, Recorded("", "", "", 1_000), OfTracks(), ["wide"])
+    (track,) = drawing.lanes[0].tracks
+    assert [(cycle, track.texts[place]) for cycle, place in track.changes()] == changes
 
 
 def test_what_changes_in_one_cycle_changes_at_once():

@@ -5,9 +5,11 @@ from dataclasses import astuple
 
 import pytest
 
+from avrora_tools import listening, toml
 from avrora_tools.budgets import (
     Currents,
     account,
+    always_selected,
     duty_cycle,
     listening_cycle,
     milliampere_hours,
@@ -16,9 +18,10 @@ from avrora_tools.budgets import (
     whole,
 )
 from avrora_tools.errors import BadInput
-from avrora_tools.listening import ZERO, Byte, Pin, Radio, both, inverted
-from avrora_tools.profiles import MonitorReader
+from avrora_tools.listening import DDRB, PORTB, Pin, Radio
+from avrora_tools.profiles import MonitorReader, Spent
 from avrora_tools.scenarios import Scenario
+from avrora_tools.sweeping.simulation import Simulator
 from firmware import PROGRAM, compiled, needs_compiler, needs_program
 from support import TOP, run_tool
 
@@ -59,7 +62,7 @@ def test_the_bytes_that_were_sent_are_what_the_charge_has_beside_the_cycles():
 
 def test_the_account_of_a_node():
     table = table_of(CURRENTS, "c")
-    zero, one = (account(node, table.common, 256, table.hz, Radio(node.total() - node.stopped)) for node in nodes())
+    zero, one = (account(node, table.common, 256, table.hz, always_selected(node, 256)) for node in nodes())
     # 300 ms at 8 mA; 500 asleep and 200 unknown at 2 mA at least, at 8 at most; 512 ms sending, the other 488
     # listening.
     assert astuple(zero) == pytest.approx((2.4, 1.4, 10.24, 4.88, 0, 1.2))
@@ -71,13 +74,13 @@ def test_the_account_of_a_node():
 
 
 def test_a_radio_that_is_not_selected_does_not_listen():
-    """600 cycles of 1,000 selected, of which 512 are those of sends; of 100 more it is not known."""
+    """600 cycles of 1,000 selected, of which 512 are those of sends."""
     table = table_of(CURRENTS + "off = 1\n", "c")
     node = next(iter(nodes()))
-    found = account(node, table.common, 256, table.hz, Radio(600, 100))
-    assert (found.sending, found.listening, found.off) == pytest.approx((10.24, 0.88, 0.3 + 0.1))
-    assert found.unknown == pytest.approx(1.2 + 0.9)
-    assert listening_cycle(node, 256, Radio(600, 100)) == pytest.approx((0.088, 0.188))
+    found = account(node, table.common, 256, table.hz, Radio(88))
+    assert (found.sending, found.listening, found.off) == pytest.approx((10.24, 0.88, 0.4))
+    assert found.unknown == pytest.approx(1.2)
+    assert listening_cycle(node, 256, Radio(88)) == pytest.approx(0.088)
     assert account(node, table.common, 256, table.hz, Radio(0)).listening == 0
 
 
@@ -208,6 +211,7 @@ SLOT = """
 #include <avr/io.h>
 #include <util/delay_basic.h>
 volatile uint8_t table[2] = { 0xFE, 0x01 };
+volatile uint8_t *volatile port = &PORTB;
 int main(void)
 {
     DDRB |= 1;
@@ -270,43 +274,78 @@ def test_it_is_the_cycles_between_the_writes(tmp_path):
 
 @needs_program
 @needs_compiler
-def test_what_is_not_known_is_a_span_and_what_is_never_selected_is_off(tmp_path):
-    least, most = energy(tmp_path, "PORTB = table[0];", "PORTB |= 1;", ["-Os"])[0]
-    assert (least, most) == (pytest.approx(0, abs=0.5), pytest.approx(10, abs=0.6))
-    assert energy(tmp_path, "PORTB |= 1;", "", ["-Os"])[0] == [pytest.approx(0, abs=0.1)]
-    assert energy(tmp_path, "DDRB = 0;", "", ["-Os"])[0] == [pytest.approx(0, abs=0.1)]
-    assert energy(tmp_path, "PORTB &= 0xFE;", "", ["-O0"])[0] == [pytest.approx(100, abs=0.1)]
+@pytest.mark.parametrize(
+    "low, high, flags, listened",
+    [
+        ("PORTB = table[0];", "PORTB |= 1;", ["-Os"], 10),
+        ("*port &= 0xFE;", "*port |= 1;", ["-O0"], 10),
+        ("PORTB |= 1;", "", ["-Os"], 0),
+        ("DDRB = 0;", "", ["-Os"], 0),
+        ("PORTB &= 0xFE;", "", ["-O0"], 100),
+    ],
+)
+def test_a_pin_written_by_values_and_pointers_of_the_memory(tmp_path, low, high, flags, listened):
+    assert energy(tmp_path, low, high, flags)[0] == [pytest.approx(listened, abs=0.6)]
+
+
+@needs_program
+@needs_compiler
+def test_stretches_of_a_run_make_one(tmp_path, monkeypatch):
+    """Whatever is watched in one call, also where a window begins within one."""
+
+    def told():
+        words = ("*port &= 0xFE;", "*port |= 1;", ["-Os"], 700_000)
+        return [energy(tmp_path, *words, begin)[0] for begin in (0, 300_000)]
+
+    one = told()
+    monkeypatch.setattr(listening, "STRETCH", 1)
+    assert one == told()
+
+
+@needs_program
+@pytest.mark.parametrize("stretch", [1, 64])
+def test_bytes_on_the_air_are_no_listening_in_each_stretch(monkeypatch, stretch):
+    """The radios of examples/packet.toml are selected all the time."""
+    folder, first, end = f"{TOP}/examples", 300_000, 700_000
+    words = [PROGRAM, "run", "--plain", "packet.toml"]
+    rows = subprocess.run(words, cwd=folder, capture_output=True, text=True, check=True).stdout
+    scenario = Scenario.load(f"{folder}/packet.toml")
+    wanted = [end - first] * 3
+    for cycle, node in re.findall(r"(?m)^(\d+) (\d) sent ", rows):
+        begun = int(cycle)
+        wanted[int(node)] -= max(0, min(begun + scenario.byte_time, end) - max(begun, first))
+    monkeypatch.setattr(listening, "STRETCH", stretch)
+    with open(f"{folder}/packet.toml", encoding="utf-8") as file:
+        document = toml.loads(file.read())
+    found = listening.watched_radios(Simulator(PROGRAM, folder, 600), scenario, document, (first, end), [Spent()] * 3)
+    assert [radio.listened for radio in found] == wanted and wanted[1] < 400_000
+
+
+@needs_program
+@needs_compiler
+def test_always_listening_runs_nothing(tmp_path):
     assert energy(tmp_path, "PORTB |= 1;", "", ["-Os"], more=["--always-listening"])[0] == [100]
 
 
-@pytest.mark.parametrize(
-    "texts, selected",
-    [
-        (["sbi 0x17, 0"], True),
-        (["sbi 0x17, 1"], False),
-        (["sbi 0x17, 0", "sbi 0x18, 0"], False),
-        (["sbi 0x17, 0", "sbi 0x18, 0", "cbi 0x18, 0"], True),
-        (["ldi r24, 0x07", "out 0x17, r24"], True),
-        (["in r24, 0x17", "ori r24, 0x01", "out 0x17, r24"], True),
-        (["sbi 0x17, 0", "lds r24, 0x0100", "out 0x18, r24"], None),
-        (["sbi 0x17, 0", "lds r24, 0x0100", "andi r24, 0xFE", "sts 0x0038, r24"], True),
-        (["sbi 0x17, 0", "lds r24, 0x0100", "ori r24, 0x01", "sts 0x0038, r24"], False),
-        (["ldi r30, 0x37", "ldi r31, 0x00", "ldd r24, Z+0", "ori r24, 0x01", "st Z+, r24"], True),
-        (["ldi r26, 0x38", "ldi r27, 0x00", "ldi r24, 0x01", "st -X, r24"], True),
-        (["ldi r24, 0x37", "ldi r25, 0x00", "movw r30, r24", "ldi r18, 0xFF", "std Z+0, r18"], True),
-        (["sbi 0x17, 0", "ldi r24, 0xFE", "com r24", "eor r25, r25", "or r25, r24", "out 0x18, r25"], False),
-        (["ldi r24, 0x01", "mul r24, r24", "out 0x17, r0"], None),
-        (["ldi r24, 0x01", "inc r24", "out 0x17, r24"], None),
-        (["ldi r24, 0x01", "cpi r24, 0x01", "out 0x17, r24"], True),
-    ],
-)
-def test_what_instructions_do_to_the_pin(texts, selected):
-    pin = Pin()
-    for text in texts:
-        pin.execute(0, text)
-    assert pin.is_selected() is selected
+def test_the_cycles_in_which_a_pin_selects():
+    pin = Pin(first=100, last=1_000)
+    changes = [(50, DDRB, 3), (200, PORTB, 0xFF), (300, PORTB, 0xFE), (310, PORTB, 0), (900, DDRB, 2)]
+    for cycle, address, byte in changes:
+        pin.change(cycle, address, byte)
+    assert not pin.is_selected() and pin.listened == 100 + 600
+    pin.change(950, DDRB, 1)
+    pin.count_to(2_000)
+    assert pin.listened == 100 + 600 + 50
 
 
-def test_bits_of_which_some_are_known():
-    assert both(Byte(0x0F, 0x05), Byte(0xF0, 0x50)) == Byte(0xAA, 0)
-    assert inverted(Byte(0x0F, 0x05)) == Byte(0x0F, 0x0A) and inverted(ZERO) == Byte(0xFF, 0xFF)
+def test_a_byte_on_the_air_takes_no_time_from_what_was_listened_before():
+    """A driver that selects the radio for each transfer alone sends long after."""
+    pin = Pin(first=0, last=10_000)
+    for cycle, byte in [(0, 0), (1_000, 1), (1_100, 0), (1_150, 1), (3_000, 0)]:
+        pin.change(cycle, PORTB, byte)
+        pin.change(cycle, DDRB, 1)
+        if cycle == 1_100:
+            pin.send(1_120, 3_072)
+    assert pin.listened == 1_000 + 20
+    pin.count_to(5_000)
+    assert pin.listened == 1_000 + 20 + 5_000 - (1_120 + 3_072)

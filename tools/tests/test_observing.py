@@ -184,22 +184,18 @@ def test_enumerators_stand_for_their_numbers(names):
         ("where->count == 1", "`where` is a pointer, and pointers are not followed"),
         ("f(wide)", "has no place in a condition"),
         ("wide if wide else 1", "has no place in a condition"),
-        ("wide in (1, 2)", "has no place in a condition|one of =="),
+        ("wide in (1, 2)", "no condition"),
         ("box.row[1:2] == 1", "no name"),
         ("wide[wide] == 1", "no array"),
         ("box.row[wide] == 1", "name a part"),
         ("wide == 'AB'", "no number and no character"),
         ("wide == " + "1 + " * 400 + "1", "at most"),
         ("-" * 200 + "wide", "fifty parts|no condition"),
-        ("wide << 70 == 1 && ratio << 1 == 0", None),
+        ("wide << 70 == 1", "takes 0 to 63"),
+        ("ratio << 1 == 0", "takes whole numbers"),
     ],
 )
 def test_what_no_value_can_change_is_refused(names, text, why):
-    if why is None:
-        condition = Reader(names).read(text)
-        with pytest.raises(BadInput):
-            condition.holds({"wide": 1, "ratio": 0.5})
-        return
     with pytest.raises(BadInput, match=why):
         Reader(names).read(text)
 

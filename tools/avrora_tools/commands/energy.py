@@ -8,6 +8,7 @@ from avrora_tools.budgets import (
     Account,
     Table,
     account,
+    always_selected,
     duty_cycle,
     listening_cycle,
     milliampere_hours,
@@ -15,7 +16,7 @@ from avrora_tools.budgets import (
 )
 from avrora_tools.budgets import between, table_of, whole
 from avrora_tools.errors import BadInput, Status
-from avrora_tools.listening import Radio, Selection
+from avrora_tools.listening import Radio, watched_radios
 from avrora_tools.profiles import Spent
 from avrora_tools.reporting import bars
 from avrora_tools.reporting.currents import currents_of
@@ -41,9 +42,9 @@ and a TOML file of currents in mA:
 run. If a report is neither of the whole run nor of the scenario's window, --window says of which cycles it is.
 examples/currents.toml is a table to begin with. Cycles without an owner (`lead`: the window began within a sleep or an
 instruction) may be awake or asleep, so the tool tells what depends on them as a span. No report tells when a radio was
-selected, so it runs the scenario again and follows the writes to PB0. Where these do not tell, what depends on them is
-a span too. --always-listening takes each radio for selected. A byte that is sent counts for a whole byte time. A
-stopped node draws nothing. Means and days are those of the window of the report."""
+selected, so it runs the scenario again and watches PB0. --always-listening takes each radio for selected. A byte that
+is sent counts for a whole byte time. A stopped node draws nothing. Means and days are those of the window of the
+report."""
 
 def run(arguments: argparse.Namespace) -> int:
     table = table_of(files.read_text(arguments.currents), files.shown(arguments.currents))
@@ -69,11 +70,11 @@ def radios_of(
 ) -> list[Radio]:
     """For how long each radio was selected: by running the scenario again, or with --always-listening all the time."""
     if arguments.always_listening:
-        return [Radio(node.total() - node.stopped) for node in nodes]
+        return [always_selected(node, scenario.byte_time) for node in nodes]
     folder = os.path.dirname(os.path.abspath(arguments.scenario))
     simulator = Simulator(cli.simulator(arguments.avrora), folder, arguments.timeout)
     document = toml.loads(files.read_text(arguments.scenario))
-    return Selection(simulator, scenario, document, span).radios(nodes)
+    return watched_radios(simulator, scenario, document, span, nodes)
 
 
 def mean(parts: list[tuple[float, float]]) -> tuple[float, float]:
@@ -90,8 +91,8 @@ def print_table(nodes: list[Spent], accounts: list[Account], radios: list[Radio]
     duties = [duty_cycle(node) for node in nodes]
     listens = [listening_cycle(node, byte_time, radio) for node, radio in zip(nodes, radios)]
     rows = [(str(k), duties[k], listens[k], sent(node), accounts[k]) for k, node in enumerate(nodes)]
-    rows.append(("network", mean(duties), mean(listens), sum(map(sent, nodes)), whole(accounts)))
-    for name, duty, listening, count, one in rows:
+    rows.append(("network", mean(duties), sum(listens) / len(listens), sum(map(sent, nodes)), whole(accounts)))
+    for name, duty, listened, count, one in rows:
         least, most = one.least / seconds, one.most / seconds
         days = ""
         if table.battery and name != "network":
@@ -100,8 +101,9 @@ def print_table(nodes: list[Spent], accounts: list[Account], radios: list[Radio]
                 if least
                 else " -"
             )
+        listens_text = f"{100 * listened:.2f}%"
         print(
-            f"{name:>7} {percent(duty):>15} {percent(listening):>15} {count:>7,} {between(least, most, '.3f'):>15} "
+            f"{name:>7} {percent(duty):>15} {listens_text:>15} {count:>7,} {between(least, most, '.3f'):>15} "
             f"{between(milliampere_hours(one.least), milliampere_hours(one.most), '.4g'):>21} "
             f"{between(least * HOURS_A_DAY, most * HOURS_A_DAY, '.2f'):>15}{days}"
         )

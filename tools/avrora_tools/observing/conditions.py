@@ -1,50 +1,78 @@
 """Conditions on the quantities of a node, such as `queued <= 3 && state != BROKEN`, in the words of C or of Python."""
 import ast
+import enum
 import functools
 import itertools
+import keyword
 import math
 import operator
 import re
+import struct
 from collections.abc import Callable, Mapping, Sequence
 from dataclasses import dataclass
-from typing import NamedTuple, TypeGuard
+from typing import Any, NamedTuple, TypeGuard
 
 from avrora_tools import files
 from avrora_tools.errors import BadInput
 from avrora_tools.observing import ranges
 from avrora_tools.observing.quantities import Names, Quantity, bare, enumerators_of
 from avrora_tools.observing.ranges import Range
-from avrora_tools.variables import Array
+from avrora_tools.variables import FLOAT, SIGNED_FIXED, UNSIGNED_FIXED, Array, Base, Type
 
 LONGEST = 1_000  # letters of a condition
 MOST_DEPTH = 50
 MOST_ELEMENTS = 256  # of an array, where it is worked out which one is meant
 MOST_BITS = 16  # of all quantities of a condition, where each value is tried
+LONG_FLOAT = 8  # bytes of a floating-point number that has more digits than `float`
 
 Number = int | float
+Found = Number | None  # None of what is not a number, as what is divided by 0
 Values = Mapping[str, Number]
 
 
-class Term(NamedTuple):
-    """What a part of a condition comes to, and between which numbers that lies, whatever the values are."""
+class Kind(enum.IntEnum):
+    """What a number is in C. Where two meet, both become what the later one is."""
 
-    of: Callable[[Values], Number]
+    WHOLE = 0
+    FIXED = 1
+    FLOAT = 2
+
+
+class Term(NamedTuple):
+    """What a part of a condition comes to; between which numbers that lies, whatever the values are; and what it is in
+    C."""
+
+    of: Callable[[Values], Found]
     range: Range
+    kind: Kind = Kind.WHOLE
 
     def is_true(self, values: Values) -> bool:
         """What is not a number is not true."""
         number = self.of(values)
-        return number != 0 and number == number
+        return number is not None and number != 0
 
+    def through(self, work: Callable[[Number], Found]) -> Callable[[Values], Found]:
+        """What a work makes of the number, if it is one."""
 
-def differ(a: Number, b: Number) -> bool:
-    """Also this comparison no number fulfils where one of both is none."""
-    return a != b and a == a and b == b
+        def found(values: Values) -> Found:
+            number = self.of(values)
+            return None if number is None else work(number)
+
+        return found
+
+    def beside(self, other: "Term", work: Callable[[Any, Any], Found]) -> Callable[[Values], Found]:
+        """What a work makes of two numbers, if both are numbers."""
+
+        def found(values: Values) -> Found:
+            a, b = self.of(values), other.of(values)
+            return None if a is None or b is None else work(a, b)
+
+        return found
 
 
 COMPARISONS: dict[type[ast.cmpop], Callable[[Number, Number], bool]] = {
     ast.Eq: operator.eq,
-    ast.NotEq: differ,
+    ast.NotEq: operator.ne,
     ast.Lt: operator.lt,
     ast.LtE: operator.le,
     ast.Gt: operator.gt,
@@ -52,44 +80,58 @@ COMPARISONS: dict[type[ast.cmpop], Callable[[Number, Number], bool]] = {
 }
 
 
-def quotient(a: Number, b: Number) -> Number:
+def nearest(form: str, number: Number) -> float:
+    """The floating-point number of a form that is nearest to a number."""
+    try:
+        found: float = struct.unpack(form, struct.pack(form, number))[0]
+        return found
+    except OverflowError:
+        return math.inf if number > 0 else -math.inf
+
+
+def quotient(a: Number, b: Number) -> Found:
     """As C divides: whole numbers towards 0. What is divided by 0 is not a number."""
     if b == 0:
-        return math.nan
+        return None
     if isinstance(a, float) or isinstance(b, float):
         return a / b
     whole = abs(a) // abs(b)
     return whole if (a < 0) == (b < 0) else -whole
 
 
-def remainder(a: Number, b: Number) -> Number:
+def remainder(a: int, b: int) -> Found:
     found = quotient(a, b)
-    return found if isinstance(found, float) else a - b * found
+    return None if found is None else a - b * found
 
 
-def of_whole(name: str, work: Callable[[int, int], int]) -> Callable[[Number, Number], Number]:
-    def done(a: Number, b: Number) -> Number:
-        if isinstance(a, float) or isinstance(b, float):
-            raise BadInput(f"`{name}` takes whole numbers")
-        if name in ("<<", ">>") and not 0 <= b < 64:
-            raise BadInput(f"`{name}` takes 0 to 63 behind it")
-        return work(a, b)
-
-    return done
+def shifted(work: Callable[[int, int], int]) -> Callable[[int, int], Found]:
+    """What is shifted by less than 0, or by more than any number has bits, is not a number."""
+    return lambda a, b: work(a, b) if 0 <= b <= ranges.MOST_SHIFTED else None
 
 
-OPERATIONS: dict[type[ast.operator], Callable[[Number, Number], Number]] = {
+OPERATIONS: dict[type[ast.operator], Callable[[Any, Any], Found]] = {
     ast.Add: operator.add,
     ast.Sub: operator.sub,
     ast.Mult: operator.mul,
     ast.Div: quotient,
     ast.Mod: remainder,
-    ast.BitAnd: of_whole("&", operator.and_),
-    ast.BitOr: of_whole("|", operator.or_),
-    ast.BitXor: of_whole("^", operator.xor),
-    ast.LShift: of_whole("<<", operator.lshift),
-    ast.RShift: of_whole(">>", operator.rshift),
+    ast.BitAnd: operator.and_,
+    ast.BitOr: operator.or_,
+    ast.BitXor: operator.xor,
+    ast.LShift: shifted(operator.lshift),
+    ast.RShift: shifted(operator.rshift),
 }
+
+# Operators that take whole numbers alone, as C spells them.
+OF_WHOLE: dict[type[ast.operator], str] = {
+    ast.Mod: "%",
+    ast.BitAnd: "&",
+    ast.BitOr: "|",
+    ast.BitXor: "^",
+    ast.LShift: "<<",
+    ast.RShift: ">>",
+}
+SHIFTS = (ast.LShift, ast.RShift)
 
 # Bit operators, which bind less than a comparison in C, and more in Python.
 BITS = (ast.BitAnd, ast.BitOr, ast.BitXor)
@@ -104,7 +146,14 @@ CONSTANTS = {"true": 1, "false": 0, "NULL": 0}
 # spells otherwise than Python.
 BIT = re.compile(r"\b([A-Za-z_]\w*)\.([0-7])\b")
 KEPT = r"""'(?:\\.|[^'\\])+'|(?<![\w.\]])(?:\d+\.\d*|\.\d+|\d+(?=[eE]))(?:[eE][+-]?\d+)?"""
-C_WORDS = re.compile(rf"({KEPT})|&&|\|\||!=|!|->|\b(0[0-7]+)[uUlL]*\b(?![\w.])|\b(\d+|0[xX][0-9A-Fa-f]+)[uUlL]+\b")
+C_WORDS = re.compile(
+    rf"({KEPT})|&&|\|\||!=|!|->|\b(0[0-7]+)[uUlL]*\b(?![\w.])|\b(\d+|0[xX][0-9A-Fa-f]+)[uUlL]+\b|\b([a-z]+)\b"
+)
+
+# Names of C that Python has for other things, such as `queue.in`, get this behind them on the way.
+OF_BOTH = {"if", "else", "for", "while", "break", "continue", "return"}  # which C has too, so that no name is one
+TAKEN = frozenset(keyword.kwlist) - {"and", "or", "not", "True", "False", "None"} - OF_BOTH
+MARK = "__c__"
 
 
 def of_python(text: str) -> str:
@@ -114,6 +163,8 @@ def of_python(text: str) -> str:
         found = match[0]
         if match[1] or found == "!=":
             return found
+        if match[4]:
+            return found + MARK * (found in TAKEN)
         if match[2]:
             return str(int(match[2], 8))
         if match[3]:
@@ -143,6 +194,7 @@ class Reader:
         self.told: dict[str, Quantity] = {}
         self.within_element = False
         self.source = ""  # as Python has it
+        self.is_long = False  # whether floating-point numbers are computed in eight bytes
 
     def read(self, text: str) -> Condition:
         """Raises BadInput where it is none, names what is not there, or is the same whatever the values are."""
@@ -154,9 +206,8 @@ class Reader:
             tree = ast.parse(self.source, mode="eval").body
         except (SyntaxError, ValueError, MemoryError, RecursionError):
             raise BadInput(f"`{shown}` is not a condition such as `queued <= 3`") from None
-        self.found, self.told = {}, {}
         try:
-            term = self.term(tree, 0)
+            term = self.whole(tree)
         except RecursionError:
             raise BadInput(f"`{shown}`: too deep") from None
         if not self.found:
@@ -166,11 +217,31 @@ class Reader:
         refuse_certain(found, term.range)
         return found
 
+    def whole(self, tree: ast.expr) -> Term:
+        """The term of all. Its floating-point numbers have four bytes, as avr-gcc's `double` has them; eight where a
+        quantity has so many."""
+        for self.is_long in (False, True):
+            self.found, self.told = {}, {}
+            term = self.term(tree, 0)
+            if not any(kind_of(one.type) is Kind.FLOAT and one.size == LONG_FLOAT for one in self.found.values()):
+                break
+        return term
+
+    def floating(self, term: Term) -> Term:
+        """A term as it stands beside a floating-point number."""
+        rounded = functools.partial(nearest, "<d" if self.is_long else "<f")
+        return Term(term.through(rounded), term.range.mapped(rounded), Kind.FLOAT)
+
+    def alike(self, a: Term, b: Term) -> tuple[Term, Term]:
+        """Terms beside one another: both are floating-point numbers where one is."""
+        return (self.floating(a), self.floating(b)) if Kind.FLOAT in (a.kind, b.kind) else (a, b)
+
     def term(self, tree: ast.expr, depth: int) -> Term:
         if depth > MOST_DEPTH:
             raise BadInput("a condition is at most fifty parts deep")
         if isinstance(tree, ast.Constant):
-            return constant(tree.value)
+            found = constant(tree.value)
+            return self.floating(found) if found.kind is Kind.FLOAT else found
         if isinstance(tree, ast.BoolOp):
             return self.joined(tree, depth)
         if isinstance(tree, ast.UnaryOp):
@@ -180,12 +251,23 @@ class Reader:
         if is_not(tree):
             return negated(self.term(tree.right, depth + 1))
         if isinstance(tree, ast.BinOp) and type(tree.op) in OPERATIONS:
-            work, a, b = OPERATIONS[type(tree.op)], self.term(tree.left, depth + 1), self.term(tree.right, depth + 1)
-            lies = ranges.OPERATIONS[type(tree.op)](a.range, b.range)
-            return Term(lambda values: work(a.of(values), b.of(values)), lies)
+            return self.worked(tree, depth)
         if isinstance(tree, (ast.Name, ast.Attribute, ast.Subscript)):
             return self.part("", parts_of(tree), depth)
         raise BadInput(f"`{spelled(tree)}` has no place in a condition")
+
+    def worked(self, tree: ast.BinOp, depth: int) -> Term:
+        """What an operator of two sides makes."""
+        kind = type(tree.op)
+        work, lies = OPERATIONS[kind], ranges.OPERATIONS[kind]
+        a, b = self.alike(self.term(tree.left, depth + 1), self.term(tree.right, depth + 1))
+        made = max(a.kind, b.kind)
+        if kind in OF_WHOLE and made is not Kind.WHOLE:
+            raise BadInput(f"`{OF_WHOLE[kind]}` takes whole numbers")
+        if kind in SHIFTS and (b.range.high < 0 or b.range.low > ranges.MOST_SHIFTED):
+            raise BadInput(f"`{OF_WHOLE[kind]}` takes 0 to {ranges.MOST_SHIFTED} behind it")
+        found = Term(a.beside(b, work), lies(a.range, b.range), made)
+        return self.floating(found) if made is Kind.FLOAT else found
 
     def joined(self, tree: ast.BoolOp, depth: int) -> Term:
         terms = [self.term(one, depth + 1) for one in tree.values]
@@ -199,11 +281,12 @@ class Reader:
         if isinstance(tree.op, ast.Not):
             return negated(term)
         if isinstance(tree.op, ast.USub):
-            return Term(lambda values: -term.of(values), ranges.minus(term.range))
+            return term._replace(of=term.through(operator.neg), range=ranges.minus(term.range))
         if isinstance(tree.op, ast.UAdd):
             return term
-        flip = of_whole("~", lambda a, _: ~a)
-        return Term(lambda values: flip(term.of(values), 0), ranges.inverted(term.range))
+        if term.kind is not Kind.WHOLE:
+            raise BadInput("`~` takes whole numbers")
+        return Term(term.through(lambda number: ~int(number)), ranges.inverted(term.range))
 
     def compared(self, tree: ast.Compare, depth: int) -> Term:
         sides = [tree.left, *tree.comparators]
@@ -214,15 +297,16 @@ class Reader:
             if type(one) not in COMPARISONS:
                 raise BadInput("a comparison is one of ==, !=, <, <=, >, >=")
             works.append(COMPARISONS[type(one)])
+        pairs = list(map(self.alike, terms, terms[1:]))
+        parts = [a.beside(b, work) for work, (a, b) in zip(works, pairs)]
 
         def holds(values: Values) -> int:
-            numbers = [term.of(values) for term in terms]
-            return int(all(work(a, b) for work, a, b in zip(works, numbers, numbers[1:])))
+            return int(all(part(values) for part in parts))
 
         spelling = [ast.dump(one) for one in sides]
         found = [
-            ranges.comparison(type(op), terms[i].range, terms[i + 1].range, spelling[i] == spelling[i + 1])
-            for i, op in enumerate(tree.ops)
+            ranges.comparison(type(op), a.range, b.range, spelling[i] == spelling[i + 1])
+            for i, (op, (a, b)) in enumerate(zip(tree.ops, pairs))
         ]
         return Term(holds, ranges.conjunction(found))
 
@@ -261,17 +345,19 @@ class Reader:
         number = self.term(index, depth + 1)
         if whole.count < 1:
             raise BadInput(f"`{files.printable(name)}` has no elements")
+        if number.range.high < 0 or number.range.low >= whole.count:
+            raise BadInput(f"`{files.printable(name)}` has {whole.count} elements, and none is ever of that number")
         outer, self.within_element = self.within_element, True
         terms = [self.part(f"{name}[{place}]", behind, depth + 1) for place in range(whole.count)]
         self.within_element = outer
 
-        def chosen(values: Values) -> Number:
+        def chosen(values: Values) -> Found:
             place = number.of(values)
-            return terms[int(place)].of(values) if place in range(len(terms)) else math.nan
+            return None if place is None or place not in range(len(terms)) else terms[int(place)].of(values)
 
         found = functools.reduce(Range.joined, (term.range for term in terms))
         is_there = not number.range.may_be_none and 0 <= number.range.low and number.range.high < whole.count
-        return Term(chosen, found if is_there else found._replace(may_be_none=True))
+        return Term(chosen, found if is_there else found._replace(may_be_none=True), terms[0].kind)
 
     def named(self, name: str) -> Term:
         if name not in self.names.variables and name in self.enumerators:
@@ -282,7 +368,15 @@ class Reader:
         self.found[found.name] = found
         if not self.within_element:
             self.told[found.name] = found
-        return Term(lambda values: values[found.name], ranges.of_numbers([found.number(held) for held in ends(found)]))
+        lies = ranges.of_numbers([found.number(held) for held in ends(found)])
+        return Term(lambda values: values[found.name], lies, kind_of(found.type))
+
+
+def kind_of(type_: Type) -> Kind:
+    type_ = bare(type_)
+    if not isinstance(type_, Base):
+        return Kind.WHOLE
+    return {FLOAT: Kind.FLOAT, SIGNED_FIXED: Kind.FIXED, UNSIGNED_FIXED: Kind.FIXED}.get(type_.encoding, Kind.WHOLE)
 
 
 def is_not(tree: ast.expr) -> TypeGuard[ast.BinOp]:
@@ -301,7 +395,7 @@ def negated(term: Term) -> Term:
 
 def spelled(tree: ast.expr) -> str:
     """A part of a condition, for a message."""
-    return files.printable(ast.unparse(tree).replace(f"{NOT} ** ", "!"))
+    return files.printable(ast.unparse(tree).replace(f"{NOT} ** ", "!").replace(MARK, ""))
 
 
 def refuse_certain(condition: Condition, found: Range) -> None:
@@ -336,10 +430,11 @@ def ends(one: Quantity) -> list[bytes]:
 
 def constant(value: object) -> Term:
     if isinstance(value, str) and len(value) == 1 and ord(value) < 256:
-        value = ord(value)
+        value = ord(value) - (256 if ord(value) > 127 else 0)  # avr-gcc's `char` is signed
     if isinstance(value, (int, float)):  # True and False, too, are 1 and 0
         number: Number = value
-        return Term(lambda values: number, Range(number, number))
+        kind = Kind.FLOAT if isinstance(number, float) else Kind.WHOLE
+        return Term(lambda values: number, Range(number, number), kind)
     raise BadInput(f"`{files.printable(str(value))[:40]}` is neither a number nor a character")
 
 
@@ -347,9 +442,9 @@ def parts_of(tree: ast.expr) -> list[str | ast.expr]:
     """The name that a tree of members and elements spells, in pieces; an element whose number is worked out by its
     tree."""
     if isinstance(tree, ast.Name):
-        return [tree.id]
+        return [tree.id.removesuffix(MARK)]
     if isinstance(tree, ast.Attribute):
-        return [*parts_of(tree.value), f".{tree.attr}"]
+        return [*parts_of(tree.value), f".{tree.attr.removesuffix(MARK)}"]
     if isinstance(tree, ast.Subscript):
         index = tree.slice
         if isinstance(index, ast.Constant) and isinstance(index.value, int):

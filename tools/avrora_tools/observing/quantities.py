@@ -1,5 +1,6 @@
 """Quantities: what of a node has one value at a time, by its name: a variable of its program, a member or an element of
 one, a register."""
+import dataclasses
 import difflib
 import fnmatch
 import functools
@@ -15,6 +16,8 @@ from avrora_tools.observing.places import REGISTERS, SP_LOW, SREG, Kind, Place
 from avrora_tools.programs import Program
 from avrora_tools.states import IO_NAMES
 from avrora_tools.variables import (
+    ENCODINGS,
+    NAMELESS,
     OP_ADDR,
     UNSIGNED,
     UNSIGNED_CHAR,
@@ -88,7 +91,11 @@ def bare(type_: Type) -> Type:
 
 
 def is_scalar(type_: Type) -> bool:
-    return not isinstance(bare(type_), (Array, Structure, Opaque)) and type_.size > 0
+    """Whether it is one number; a complex one is not."""
+    plain = bare(type_)
+    if isinstance(plain, Base) and plain.encoding not in ENCODINGS:
+        return False
+    return not isinstance(plain, (Array, Structure, Opaque)) and type_.size > 0
 
 
 @dataclass
@@ -171,10 +178,11 @@ class Names:
                 raise BadInput(f"`{whole.name}` has {type_.count} elements, from [0] on, and no [{number}]")
             return Quantity(name, whole.address + number * type_.element.size, type_.element)
         if match[1] is not None and isinstance(type_, Structure):
-            for one in type_.members:
-                if one.name == match[1]:
-                    return member_of(whole, one)
-            known = ", ".join(f"`{one.name}`" for one in type_.members[:8])
+            members = list(members_of(whole, type_))
+            for one in members:
+                if one.name == name:
+                    return one
+            known = ", ".join(f"`{one.name.rpartition('.')[2]}`" for one in members[:8])
             raise BadInput(f"`{whole.name}` has no member `{match[1]}`, but {known}")
         flag = FLAGS.find(match[1] or match[3] or "?")
         if whole.address == SREG and match[1] and len(match[1]) == 1 and flag >= 0:
@@ -238,8 +246,8 @@ class Names:
         """The scalars in a quantity, in the order of their addresses."""
         type_ = bare(whole.type)
         if isinstance(type_, Structure):
-            for one in type_.members:
-                yield from self.leaves(member_of(whole, one))
+            for one in members_of(whole, type_):
+                yield from self.leaves(one)
         elif isinstance(type_, Array):
             size = type_.element.size
             for number in range(type_.count):
@@ -248,6 +256,18 @@ class Names:
                 )
         elif is_scalar(type_):
             yield whole
+
+
+def members_of(whole: Quantity, type_: Structure) -> Iterator[Quantity]:
+    """The members of a quantity that is a structure; instead of a structure in it that has no name its members, as C
+    names them."""
+    for one in type_.members:
+        found = member_of(whole, one)
+        inner = bare(one.type)
+        if one.name == NAMELESS and isinstance(inner, Structure):
+            yield from members_of(dataclasses.replace(found, name=whole.name), inner)
+        else:
+            yield found
 
 
 def member_of(whole: Quantity, one: Member) -> Quantity:

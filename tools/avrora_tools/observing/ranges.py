@@ -10,7 +10,8 @@ Number = int | float
 
 
 class Range(NamedTuple):
-    """The lowest and the highest number that a term may be, and whether it may be none, as what is divided by 0."""
+    """The lowest and the highest number that a term may be, and whether it may be none, as what is divided by 0, or
+    C's NaN."""
 
     low: Number
     high: Number
@@ -19,6 +20,10 @@ class Range(NamedTuple):
     def joined(self, other: "Range") -> "Range":
         none = self.may_be_none or other.may_be_none
         return Range(min(self.low, other.low), max(self.high, other.high), none)
+
+    def mapped(self, work: Callable[[Number], Number]) -> "Range":
+        """What a work that never falls makes of it."""
+        return Range(work(self.low), work(self.high), self.may_be_none)
 
     def is_known(self) -> bool:
         return math.isfinite(self.low) and math.isfinite(self.high)
@@ -53,10 +58,12 @@ def negation(term: Range) -> Range:
 
 
 def comparison(kind: type[ast.cmpop], one: Range, other: Range, same: bool) -> Range:
-    """What comes of a comparison; `same` where both sides are one term. No number fulfils any comparison."""
+    """What comes of a comparison; `same` where both sides are one term. What is not a number fulfils none, and NaN `!=`
+    alone."""
     none = one.may_be_none or other.may_be_none
     if same:
-        return truth(kind in (ast.Eq, ast.LtE, ast.GtE) and not none, kind in (ast.NotEq, ast.Lt, ast.Gt))
+        is_less = kind in (ast.Lt, ast.Gt)
+        return truth(not none and not is_less and kind is not ast.NotEq, is_less or kind is ast.NotEq and not none)
     if kind in (ast.Gt, ast.GtE):
         one, other = other, one
     if kind in (ast.Lt, ast.Gt):
@@ -67,7 +74,7 @@ def comparison(kind: type[ast.cmpop], one: Range, other: Range, same: bool) -> R
         is_apart = one.high < other.low or other.high < one.low
         is_one = one.low == one.high == other.low == other.high
         is_true, is_false = (is_one, is_apart) if kind is ast.Eq else (is_apart, is_one)
-    return truth(is_true and not none, is_false)
+    return truth(is_true and not none, is_false and not (none and kind is ast.NotEq))
 
 
 def minus(term: Range) -> Range:

@@ -36,10 +36,10 @@ def add_to(drawing: Drawing, run: Run, network: Network, words: Sequence[str]) -
         text = printable(one.shown(held, network.names(node).targets))
         tracks[node][one.name].add(cycle, text, one.number(held))
 
-    for (node, number), held in observed.values(drawing.first).items():
+    values, moments = observed.followed(drawing.first, max(drawing.first, end - 1))
+    for (node, number), held in values.items():
         put(drawing.first, node, selected[node][number], held)
-    if drawing.first < end:
-        for moment in observed.moments(drawing.first, end - 1):
-            put(moment.cycle + 1, moment.node, moment.quantity, moment.held)
+    for moment in moments:
+        put(moment.cycle + 1, moment.node, moment.quantity, moment.held)
     for node, found in tracks.items():
         drawing.lanes[node].tracks = list(found.values())

@@ -17,7 +17,7 @@ from avrora_tools.expectations import REFUSALS, Case, Outcome
 from avrora_tools.exports import coverage
 from avrora_tools.exports.walking import Functions, NodeCosts, StackReader
 from avrora_tools.fates import Reader
-from avrora_tools.listening import Radio, Selection
+from avrora_tools.listening import Radio, watched_radios
 from avrora_tools.observing import tracks
 from avrora_tools.observing.running import Network, Run
 from avrora_tools.profiles import Spent
@@ -200,9 +200,9 @@ def add_currents(found: Gathered, simulator: Simulator, name: str, always_listen
     if unknown := sorted(set(table.by_node) - set(range(len(nodes)))):
         raise BadInput(f"{files.shown(name)}: there is no node {unknown[0]}")
     if always_listening:
-        radios = [Radio(node.total() - node.stopped) for node in nodes]
+        radios = [budgets.always_selected(node, found.scenario.byte_time) for node in nodes]
     else:
-        radios = Selection(simulator, found.scenario, found.document, (0, found.scenario.cycles)).radios(nodes)
+        radios = watched_radios(simulator, found.scenario, found.document, (0, found.scenario.cycles), nodes)
     found.table, found.radios = table, radios
     byte_time = found.scenario.byte_time
     found.accounts = [

@@ -316,14 +316,14 @@ def charge_table(run: Gathered, whole: float) -> Html:
     rows: list[Row] = []
     for (node, one), account, radio in zip(run.spent.items(), run.accounts, run.radios):
         least, most = account.least / whole, account.most / whole
-        listening = budgets.listening_cycle(one, byte_time, radio)
+        listens = budgets.listening_cycle(one, byte_time, radio)
         days = ""
         if battery and least:
             hours = battery / (most * budgets.HOURS_A_DAY), battery / (least * budgets.HOURS_A_DAY)
             days = between(*hours, ".0f")
         charges = between(budgets.milliampere_hours(account.least), budgets.milliampere_hours(account.most), ".4g")
         rows.append(
-            [node, percent(budgets.duty_cycle(one)), percent(listening), budgets.sent(one),
+            [node, percent(budgets.duty_cycle(one)), f"{100 * listens:.2f}%", budgets.sent(one),
              between(least, most, ".3f"), charges,
              between(least * budgets.HOURS_A_DAY, most * budgets.HOURS_A_DAY, ".2f"), days]
         )  # fmt: skip
