@@ -223,7 +223,7 @@ def test_names_that_python_has_for_other_things():
     assert holds("in == 3 && is != in && !from", **{"in": 3, "is": 4, "from": 0})
     with pytest.raises(BadInput, match="^`in` is a value"):
         read("in.x == 3")
-    with pytest.raises(BadInput, match="is no condition"):
+    with pytest.raises(BadInput, match="is not a condition"):
         read("wide in row")
 
 
@@ -353,7 +353,7 @@ def test_a_track_begins_with_the_old_value_of_one_that_is_half_written(first, ch
 
 
 def test_what_changes_in_one_cycle_changes_at_once():
-    """One store turns two bits over: between them is no cycle."""
+    """One store turns two bits over: between them is not a cycle."""
     assert turned("low == next") == [(0, True), (701, False), (901, True)]
     assert turned("low != next", first=750) == [(750, True), (901, False)]
     assert turned("other || count", first=750) == [(750, True)]

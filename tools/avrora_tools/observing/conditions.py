@@ -26,7 +26,7 @@ MOST_BITS = 16  # of all quantities of a condition, where each value is tried
 LONG_FLOAT = 8  # bytes of a floating-point number that has more digits than `float`
 
 Number = int | float
-Found = Number | None  # None of what is no number, as what is divided by 0
+Found = Number | None  # None of what is not a number, as what is divided by 0
 Values = Mapping[str, Number]
 
 
@@ -47,7 +47,7 @@ class Term(NamedTuple):
     kind: Kind = Kind.WHOLE
 
     def is_true(self, values: Values) -> bool:
-        """What is no number is not true."""
+        """What is not a number is not true."""
         number = self.of(values)
         return number is not None and number != 0
 
@@ -90,7 +90,7 @@ def nearest(form: str, number: Number) -> float:
 
 
 def quotient(a: Number, b: Number) -> Found:
-    """As C divides: whole numbers towards 0. What is divided by 0 is no number."""
+    """As C divides: whole numbers towards 0. What is divided by 0 is not a number."""
     if b == 0:
         return None
     if isinstance(a, float) or isinstance(b, float):
@@ -105,7 +105,7 @@ def remainder(a: int, b: int) -> Found:
 
 
 def shifted(work: Callable[[int, int], int]) -> Callable[[int, int], Found]:
-    """What is shifted by less than 0, or by more than any number has bits, is no number."""
+    """What is shifted by less than 0, or by more than any number has bits, is not a number."""
     return lambda a, b: work(a, b) if 0 <= b <= ranges.MOST_SHIFTED else None
 
 
@@ -205,7 +205,7 @@ class Reader:
         try:
             tree = ast.parse(self.source, mode="eval").body
         except (SyntaxError, ValueError, MemoryError, RecursionError):
-            raise BadInput(f"`{shown}` is no condition such as `queued <= 3`") from None
+            raise BadInput(f"`{shown}` is not a condition such as `queued <= 3`") from None
         try:
             term = self.whole(tree)
         except RecursionError:
@@ -337,7 +337,7 @@ class Reader:
         """An element whose number is worked out: all of them are watched. One that is not there is no number."""
         whole = bare(self.names.part(name).type)
         if not isinstance(whole, Array):
-            raise BadInput(f"`{files.printable(name)}` is no array")
+            raise BadInput(f"`{files.printable(name)}` is not an array")
         if whole.count > MOST_ELEMENTS:
             raise BadInput(
                 f"`{files.printable(name)}` has {whole.count:,} elements, and {MOST_ELEMENTS} are the most: name one"
@@ -435,7 +435,7 @@ def constant(value: object) -> Term:
         number: Number = value
         kind = Kind.FLOAT if isinstance(number, float) else Kind.WHOLE
         return Term(lambda values: number, Range(number, number), kind)
-    raise BadInput(f"`{files.printable(str(value))[:40]}` is no number and no character")
+    raise BadInput(f"`{files.printable(str(value))[:40]}` is neither a number nor a character")
 
 
 def parts_of(tree: ast.expr) -> list[str | ast.expr]:
@@ -451,4 +451,4 @@ def parts_of(tree: ast.expr) -> list[str | ast.expr]:
             return [*parts_of(tree.value), f"[{index.value}]"]
         if not isinstance(index, (ast.Slice, ast.Tuple)):
             return [*parts_of(tree.value), index]
-    raise BadInput(f"`{spelled(tree)}` is no name")
+    raise BadInput(f"`{spelled(tree)}` is not a name")

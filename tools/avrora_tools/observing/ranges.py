@@ -58,7 +58,7 @@ def negation(term: Range) -> Range:
 
 
 def comparison(kind: type[ast.cmpop], one: Range, other: Range, same: bool) -> Range:
-    """What comes of a comparison; `same` where both sides are one term. What is no number fulfils none, and NaN `!=`
+    """What comes of a comparison; `same` where both sides are one term. What is not a number fulfils none, and NaN `!=`
     alone."""
     none = one.may_be_none or other.may_be_none
     if same:
