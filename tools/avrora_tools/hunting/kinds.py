@@ -4,16 +4,27 @@ A kind is told what came of each of its trials, and may draw what follows from t
 because the first was cut can be cut too."""
 import math
 import random
-from collections.abc import Sequence
+from collections.abc import Mapping, Sequence
 from typing import Protocol
 
-from avrora_tools.hunting.changes import FOR_GOOD, Change, Cut, Document, Input, Latency, Trial, ends_of, inputs_of
+from avrora_tools.hunting.changes import (
+    FOR_GOOD,
+    MOST_WAITING,
+    Change,
+    Cut,
+    Document,
+    Input,
+    Latency,
+    Left,
+    Trial,
+    ends_of,
+    inputs_of,
+)
 from avrora_tools.hunting.said import Burst
 from avrora_tools.sweeping.events import EVERY
 
 MOST_CUTS = 3  # packets of one link in a row
 LONGEST_ABSENCE = 8  # the part of the time to the deadline for which a node is absent at most
-MOST_WAITING = 10_000  # cuts that follow from others, and are not tried yet
 LEAST_ROOM = 10_000  # cycles within which starts are drawn at least
 LATENCIES = (1, 4_000)
 
@@ -154,6 +165,14 @@ class Cuts:
         changes = [Cut(*link, burst.first, burst.first + length) for link in links]
         return Trial(self.name, "a node neither hears nor is heard for a while", tuple(changes))
 
+    def left(self) -> Left:
+        return Left(len(self.single), tuple(self.following))
+
+    def take_up(self, left: Left) -> None:
+        """Goes on where an earlier hunt was."""
+        del self.single[left.count :]
+        self.following = list(left.following)
+
     def passed(self, trial: Trial, bursts: Sequence[Burst]) -> None:
         """Of what was sent behind the last cut of a link the next packets can be cut too."""
         cuts = trial.cuts()
@@ -273,8 +292,29 @@ class Pairs:
             return None
         return Trial(self.name, f"{first.what}, and {second.what}", (*first.changes, *second.changes))
 
+    def left(self) -> Left:
+        return next((kind.left() for kind in self.kinds if isinstance(kind, Cuts)), Left())
+
+    def take_up(self, left: Left) -> None:
+        """Goes on where an earlier hunt was."""
+        for kind in self.kinds:
+            if isinstance(kind, Cuts):
+                kind.take_up(left)
+
     def passed(self, trial: Trial, bursts: Sequence[Burst]) -> None:
         pass
+
+
+def left_of(kinds: Sequence[Kind]) -> dict[str, Left]:
+    """What those kinds have still to draw that go through a list, by their names."""
+    return {kind.name: kind.left() for kind in kinds if isinstance(kind, (Cuts, Pairs))}
+
+
+def take_up(kinds: Sequence[Kind], left: Mapping[str, Left]) -> None:
+    """Kinds go on where an earlier hunt was."""
+    for kind in kinds:
+        if isinstance(kind, (Cuts, Pairs)) and kind.name in left:
+            kind.take_up(left[kind.name])
 
 
 def touched(trial: Trial) -> set[object]:
