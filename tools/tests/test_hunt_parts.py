@@ -96,7 +96,7 @@ def test_a_trial_of_a_file_says_nothing_else(record):
         '{"version": 1, "seed": 1, "rounds": 0, "failed": [], "arrivals": {}}',
         '{"version": 1, "seed": 1, "rounds": 0, "failed": [], "credit": {"cuts": {}}}',
         '{"version": 1, "seed": 1, "rounds": 0, "failed": [], "left": {"cuts": {"count": 1}}}',
-        '{"version": 1, "seed": 1, "rounds": 0, "failed": [], "left": {"cuts": {"count": 1, "following": [5]}}}',
+        '{"version": 1, "seed": 1, "rounds": 0, "failed": [], "left": {"cuts": {"count": 1, "following": [5], "idle": []}}}',
     ],
 )
 def test_a_corpus_that_is_none_is_refused(tmp_path, text):
@@ -119,7 +119,7 @@ def test_trials_are_kept_as_they_are(tmp_path):
     corpus = Corpus(str(tmp_path / "it.hunt"))
     corpus.clear()
     assert corpus.begin(3, "a") == Progress()
-    corpus.progress = progress = Progress(7, {"cuts": 2}, {"cuts": Left(3, (TRIAL,)), "pairs": Left(5)}, 9)
+    corpus.progress = progress = Progress(7, {"cuts": 2}, {"cuts": Left(3, (TRIAL,), (TRIAL, TRIAL)), "pairs": Left(5)}, 9)
     visits = [Visit(InputByte(2, 1), first, first + 9, frozenset({0x50, 0x51})) for first in (5, 40)]
     corpus.take(Known([TRIAL, TRIAL], visits * 2))
     corpus.write()
@@ -230,9 +230,13 @@ def test_each_packet_is_lost_once_and_what_follows_is_lost_too():
     assert [it.changes for it in cuts.following] == [
         (Cut(1, 0, 5_000, 6_001), Cut(1, 0, 9_000, 9_901)), (Cut(1, 0, 5_000, 6_001), Cut(1, 0, 20_000, 20_901)),
     ]  # fmt: skip
+    cuts.passed(Trial("cuts", "a packet is lost", (Cut(0, 1, 50, 60),)), facts().bursts)
+    assert [it.changes for it in cuts.idle] == [(Cut(0, 1, 50, 60), Cut(0, 1, 100, 2_101))]
     full = Trial("cuts", "", tuple(Cut(1, 0, at, at + 9) for at in (1, 20, 40)))
     cuts.passed(full, [Burst(1, 9_000, 9_900, b"de")])
     assert len(cuts.following) == 2
+    rows_of = [it for it in (cuts.draw(random_) for _ in range(60)) if it.what == "2 packets of a link are lost"]
+    assert [it.changes[0].sender for it in rows_of] == [1, 1, 0]  # first what followed from an answer
 
 
 def test_kinds_go_on_where_they_were():

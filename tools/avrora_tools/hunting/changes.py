@@ -117,10 +117,12 @@ class Trial:
 
 @dataclasses.dataclass(frozen=True)
 class Left:
-    """What a kind has still to draw that goes through a list: so many of the list, and what followed from others."""
+    """What a kind has still to draw that goes through a list: so many of the list, and what followed from others, by
+    whether those changed anything."""
 
     count: int = 0
     following: tuple[Trial, ...] = ()
+    idle: tuple[Trial, ...] = ()
 
 
 def record_of(trial: Trial) -> dict[str, Any]:

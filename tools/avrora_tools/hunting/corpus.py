@@ -47,15 +47,18 @@ class Progress:
         return cls(int(record["rounds"]), credit, left, int(record.get("turns", 0)))
 
     def record(self) -> dict[str, Any]:
-        left = {
-            name: {"count": it.count, "following": [record_of(trial) for trial in it.following]}
-            for name, it in self.left.items()
-        }
+        left = {name: record_of_left(it) for name, it in self.left.items()}
         return {"rounds": self.rounds, "credit": dict(self.credit), "left": left, "turns": self.turns}
 
 
+def record_of_left(left: Left) -> dict[str, Any]:
+    waiting = {"following": left.following, "idle": left.idle}
+    return {"count": left.count, **{name: [record_of(it) for it in trials] for name, trials in waiting.items()}}
+
+
 def left_of_record(record: Mapping[str, Any]) -> Left:
-    return Left(max(0, int(record["count"])), tuple(trial_of(it) for it in record["following"][:MOST_WAITING]))
+    following, idle = (tuple(map(trial_of, record[name][:MOST_WAITING])) for name in ("following", "idle"))
+    return Left(max(0, int(record["count"])), following, idle)
 
 
 class Corpus:

@@ -124,17 +124,20 @@ class Cuts:
         self.single = [(burst, to) for burst in facts.bursts for to in facts.hearers.get(burst.node, [])]
         random_.shuffle(self.single)
         self.singles = len(self.single)
-        self.following: list[Trial] = []
+        self.following: list[Trial] = []  # of cuts after which nodes sent otherwise
+        self.idle: list[Trial] = []  # of cuts that changed nothing that was sent
 
     def draw(self, random_: random.Random) -> Trial | None:
         if not self.singles:
             return None
         chance = random_.random()
-        if self.following and (chance < 0.4 or not self.single):
+        if self.following and (chance < 0.4 or not self.single and chance < 0.85):
             return self.following.pop(random_.randrange(len(self.following)))
         if self.single and chance < 0.85:
             burst, to = self.single.pop()
             return Trial(self.name, "a packet is lost", (cut_of(burst, to),))
+        if self.idle and chance < 0.9:
+            return self.idle.pop(random_.randrange(len(self.idle)))
         return self.other(random_)
 
     def other(self, random_: random.Random) -> Trial:
@@ -166,24 +169,26 @@ class Cuts:
         return Trial(self.name, "a node neither hears nor is heard for a while", tuple(changes))
 
     def left(self) -> Left:
-        return Left(len(self.single), tuple(self.following))
+        return Left(len(self.single), tuple(self.following), tuple(self.idle))
 
     def take_up(self, left: Left) -> None:
         """Goes on where an earlier hunt was."""
         del self.single[left.count :]
-        self.following = list(left.following)
+        self.following, self.idle = list(left.following), list(left.idle)
 
     def passed(self, trial: Trial, bursts: Sequence[Burst]) -> None:
-        """Of what was sent behind the last cut of a link the next packets can be cut too."""
+        """Of what was sent behind the last cut of a link the next packets can be cut too: first where somebody answered
+        the cut, so that a protocol's second try is lost as well as its first one."""
         cuts = trial.cuts()
         is_row = len({(cut.sender, cut.hearer) for cut in cuts}) == 1 and len(cuts) == len(trial.changes)
-        if not is_row or len(cuts) >= MOST_CUTS or len(self.following) > MOST_WAITING:
+        waiting = self.idle if list(bursts) == list(self.facts.bursts) else self.following
+        if not is_row or len(cuts) >= MOST_CUTS or len(waiting) > MOST_WAITING:
             return
         last = cuts[-1]
         behind = [it for it in bursts if it.node == last.sender and it.first >= last.end]
         for burst in behind[:2]:
             changes = (*trial.changes, cut_of(burst, last.hearer))
-            self.following.append(Trial(self.name, f"{len(changes)} packets of a link are lost", changes))
+            waiting.append(Trial(self.name, f"{len(changes)} packets of a link are lost", changes))
 
 
 def cut_of(burst: Burst, hearer: int) -> Cut:

@@ -78,8 +78,8 @@ class Smaller:
         failing = outputs[len(unknown) :]
         for scene, output in zip(scenes, failing):
             right = self.right[key(scene)]
-            before = right.last_sends.keys() if right else ()
-            self.fresh_senders[identity(scene)] = frozenset(last_sends(output).keys() - before)
+            senders = frozenset(last_sends(output))
+            self.fresh_senders[identity(scene)] = senders.difference(right.last_sends if right else ())
         return [self.judged(scene, self.right[key(scene)], output) for scene, output in zip(scenes, failing)]
 
     def made_here(self, scene: Scene) -> Failure | None:
