@@ -12,7 +12,7 @@ from avrora_tools.hunting.causes import Finding, Uneven, look_of, uneven
 from avrora_tools.hunting.changes import FOR_GOOD, Cut, Input, Latency, Left, Trial, record_of, trial_of, without_node
 from avrora_tools.hunting.corpus import Corpus, Known, Progress
 from avrora_tools.hunting.handing import Overwritten
-from avrora_tools.hunting.kinds import NAMES, Cuts, Facts, kinds_of, left_of, take_up
+from avrora_tools.hunting.kinds import NAMES, Cuts, Facts, Inputs, kinds_of, left_of, take_up
 from avrora_tools.hunting.oracles import DOUBLED, LOST, SILENT, STOPPED, WRONG, Failure, Oracle, Reference
 from avrora_tools.hunting.races import Races, sweep_command
 from avrora_tools.hunting.said import Burst, bursts_of, clashes_at, without_samples
@@ -217,6 +217,13 @@ def test_a_seed_draws_the_same_and_all_is_a_scenario():
     for trial in filter(None, drawn(1) + drawn(2)):
         Scenario.of_text(scenario_text(trial.applied(DOCUMENT)), str(trial))
     assert {trial.kind for trial in drawn(1) if trial} == set(NAMES)
+
+
+def test_no_input_comes_before_the_first_start_of_the_scenario():
+    """Before that a program may not listen yet, and right firmware loses its number."""
+    inputs = Inputs(facts())
+    ats = [inputs.draw(random.Random(seed)).changes[0].at for seed in range(200)]
+    assert min(ats) >= 100 and any(at < 300 for at in ats) and any(at > 300 for at in ats)
 
 
 def test_each_packet_is_lost_once_and_what_follows_is_lost_too():

@@ -232,6 +232,7 @@ class Inputs:
 
     def __init__(self, facts: Facts) -> None:
         self.inputs = [it for it in facts.inputs if len(it.hex) > 2]
+        self.first = min((it.at for it in facts.inputs if it.hex), default=0)  # before it no receiver need be enabled
         self.loses = facts.has_check
         self.until = facts.until
 
@@ -245,7 +246,9 @@ class Inputs:
             every = min(log_uniform(random_, 200, 2 * it.every), EVERY.stop - 1)
             return Trial(self.name, "bytes arrive at another distance", (Input(it.node, it.at, every, it.hex),))
         if way == 1:
-            at = max(1, it.at + random_.choice((-1, 1)) * log_uniform(random_, 1, it.every * count))
+            by = log_uniform(random_, 1, it.every * count)
+            is_earlier = random_.random() < 0.5 and it.at - by >= self.first
+            at = it.at - by if is_earlier else it.at + by
             return Trial(self.name, "all bytes arrive earlier or later", (Input(it.node, at, it.every, it.hex),))
         place = 2 * random_.randrange(1, count)
         doubled = it.hex[: place + 2] + it.hex[place : place + 2] * (way == 2) + it.hex[place + 2 :]
