@@ -3,20 +3,22 @@
 
     bench/hunts.py PROGRAM [--seeds 1-5] [--processor-minutes 40] [--jobs 4] [--fixed]
 
-For each seed it hunts in gather.toml with no span given, and prints which of the five faults each finding has, and when it was
-found. A scenario that still fails where all other faults are mended has that fault; an arrival has the one whose line it names.
---fixed hunts in the firmware without faults instead, where there is nothing to find. It needs avr-gcc (Debian: gcc-avr, avr-libc)
-and python3-pyelftools. Exit status: 0 all is as it should be, 1 a fault was not found, or something in the fixed firmware.
+For each seed it hunts in gather.toml with no span given, and prints which of the five faults each finding has, and when
+it was found. A scenario that still fails where all other faults are mended has that fault; an arrival has the one whose
+line it names. A hunt ends once all five are found (--whole: at the end of its time). --fixed hunts in the firmware
+without faults instead, where there is nothing to find. It needs avr-gcc (Debian: gcc-avr, avr-libc) and
+python3-pyelftools. Exit status: 0 all is as it should be, 1 a fault was not found, or something in the fixed firmware.
 """
 import argparse
 import contextlib
+import itertools
 import re
 import shutil
 import subprocess
 import sys
 import tempfile
 import tomllib
-from collections.abc import Iterator
+from collections.abc import Iterable, Iterator
 from dataclasses import dataclass
 from pathlib import Path
 
@@ -32,6 +34,8 @@ NEAR = 3  # lines between a place that is told and the fault's
 FAR = 12  # lines from where a fault is mended to the comment that tells of it
 
 FOUND = re.compile(r"^found after ([\d,]+) runs \(([\d,]+) s of processors\), by (\w+): (.*)$", re.M)
+NUMBERED = re.compile(r"^\d+\. \w", re.M)
+DEADLINE = re.compile(r" before cycle (\d+)\.")
 ENDED = re.compile(r"^([\d,]+) runs in .* \(([\d,]+) processor seconds\)", re.M)
 
 
@@ -42,6 +46,9 @@ class Told:
     seconds: int
     text: str
     faults: frozenset[str]
+
+    def __str__(self) -> str:
+        return f"{'+'.join(sorted(self.faults)) or '?'} ({self.seconds:,} s): {self.text}"
 
 
 class Firmware:
@@ -66,7 +73,8 @@ class Firmware:
 
     def fails(self, scenario: Path, until: int, image: str) -> bool:
         """Whether a finding's scenario fails where all nodes have this image, and the right one beside it does not."""
-        right, failing = (self.output(it, image) for it in (scenario.with_name(f"{scenario.stem}-right.toml"), scenario))
+        beside = scenario.with_name(f"{scenario.stem}-right.toml")
+        right, failing = (self.output(it, image) for it in (beside, scenario))
         document = tomllib.loads(scenario.read_text(encoding="utf-8"))
         reference, oracle = Reference(right, until, document["cycles"]), Oracle(range(len(document["node"])))
         return not oracle.failure(reference, None, right) and bool(oracle.failure(reference, None, failing))
@@ -81,34 +89,46 @@ class Firmware:
         """Which faults a finding has: alone they make its scenario fail, or, where no scenario says it, it names their
         lines."""
         if scenario.exists():
-            until = int(re.search(r" cycles, deadline ([\d,]+)", told)[1].replace(",", ""))
+            until = int(DEADLINE.search(scenario.read_text(encoding="utf-8"))[1])
             found = frozenset(name for name in FAULTS if self.fails(scenario, until, name))
             if found:
                 return found
-        places = [line for line in told.splitlines() if line.startswith("   `")]
-        named = {int(number) for line in places for group in re.findall(r"gather\.c:([\d,-]+)", line) for number in re.findall(r"\d+", group)}
-        return frozenset(
-            name for name, lines in self.lines.items() if any(abs(one - two) <= NEAR for one in lines for two in named)
-        )
+        places = [line for line in told.splitlines() if line.lstrip().startswith("`")]
+        groups = (group for line in places for group in re.findall(r"gather\.c:([\d,-]+)", line))
+        named = {int(number) for group in groups for number in re.findall(r"\d+", group)}
+        return frozenset(name for name, lines in self.lines.items() if are_near(lines, named))
 
-    def hunt(self, name: str, seed: int, minutes: int, jobs: int) -> tuple[list[Told], str]:
-        """What a hunt tells, and the line that says what it took."""
+    def hunt(self, name: str, seed: int, minutes: int, jobs: int, is_whole: bool) -> tuple[list[Told], str]:
+        """What a hunt tells, and the line that says what it took. It ends early where it found all faults, unless all
+        of it is wanted."""
         corpus = self.folder / f"{name}-{seed}.hunt"
         words = [TOP / "avrora-tools", "hunt", "--avrora", self.program, "-e", f"{name}.elf", "--until", str(UNTIL)]
         words += ["--processor-minutes", str(minutes), "--jobs", str(jobs), "--seed", str(seed), "--corpus", corpus]
-        log = self.folder / f"{name}-{seed}.txt"
-        with open(log, "w", encoding="utf-8") as file:
-            ran = subprocess.run([*words, f"{name}.toml"], cwd=self.folder, stdout=file, check=False)
-        output = log.read_text(encoding="utf-8")
-        if ran.returncode not in (0, 1):
-            sys.exit(f"hunts.py: the hunt of seed {seed} ended with status {ran.returncode}")
-        texts = re.split(r"^(?=\d+\. \w)", output, flags=re.M)[1:]
-        seconds = [int(it[2].replace(",", "")) for it in FOUND.finditer(output)]
-        found = [
-            Told(when, text, self.faults_of(corpus / f"found-{number}.toml", text))
-            for number, (when, text) in enumerate(zip(seconds, texts), 1)
-        ]
-        return found, ENDED.search(output)[0]
+        found: list[Told] = []
+        output, has_all = "", False
+        with (
+            open(self.folder / f"{name}-{seed}.txt", "w", encoding="utf-8") as log,
+            subprocess.Popen([*words, f"{name}.toml"], cwd=self.folder, stdout=subprocess.PIPE, text=True) as hunting,
+        ):
+            assert hunting.stdout
+            for line in hunting.stdout:
+                log.write(line)
+                log.flush()
+                output += line
+                if it := FOUND.match(line):
+                    faults = self.faults_of(corpus / f"found-{len(found) + 1}.toml", it[4])
+                    found.append(Told(int(it[2].replace(",", "")), it[4], faults))
+                    print(f"    {len(found)}. {found[-1]}", flush=True)
+                    if not is_whole and not has_all and (has_all := len(row_of(found)) == len(FAULTS)):
+                        hunting.terminate()
+        if hunting.returncode not in (0, 1):
+            sys.exit(f"hunts.py: the hunt of seed {seed} ended with status {hunting.returncode}")
+        told = len(NUMBERED.findall(output))  # where the time was over, some only at the end
+        return found, f"{told} findings; {ENDED.search(output)[0]}"
+
+
+def are_near(lines: Iterable[int], named: Iterable[int]) -> bool:
+    return any(abs(one - two) <= NEAR for one, two in itertools.product(lines, named))
 
 
 def lines_of(source: list[str], name: str) -> Iterator[int]:
@@ -141,6 +161,7 @@ def main() -> int:
     parser.add_argument("--processor-minutes", type=int, default=40)
     parser.add_argument("--jobs", type=int, default=4)
     parser.add_argument("--fixed", action="store_true")
+    parser.add_argument("--whole", action="store_true")
     parser.add_argument("--folder", type=Path, help="where all is kept; else it is removed")
     arguments = parser.parse_args()
     is_good = True
@@ -150,14 +171,11 @@ def main() -> int:
         firmware = Firmware(str(Path(arguments.program).resolve()), folder.resolve())
         name = "gather-fixed" if arguments.fixed else "gather"
         for seed in arguments.seeds:
-            found, ended = firmware.hunt(name, seed, arguments.processor_minutes, arguments.jobs)
+            found, ended = firmware.hunt(name, seed, arguments.processor_minutes, arguments.jobs, arguments.whole)
             row = row_of(found)
             told = ", ".join(f"{fault} {row[fault]:,} s" if fault in row else f"no {fault}" for fault in FAULTS)
-            print(f"seed {seed}: {len(found)} findings" if arguments.fixed else f"seed {seed}: {told}; {len(found)} findings", end="; ")
-            print(ended, flush=True)
-            for number, it in enumerate(found, 1):
-                print(f"    {number}. {'+'.join(sorted(it.faults)) or '?'}: {it.text.splitlines()[0]}", flush=True)
-            is_good = is_good and (not found if arguments.fixed else len(row) == len(FAULTS))
+            print(f"seed {seed}: {ended}" if arguments.fixed else f"seed {seed}: {told}; {ended}", flush=True)
+            is_good = is_good and (ended.startswith("0 ") if arguments.fixed else len(row) == len(FAULTS))
     return not is_good
 
 

@@ -84,14 +84,20 @@ def without_times(text):
 
 
 def test_a_corpus_goes_on(at, tmp_path):
-    words = ["hunt", "alarm.toml", *at("races"), "--until", "700_000", "--rounds", "1", "--only", "cuts"]
-    first = run_tool(*words)[1]
-    kept = (tmp_path / "corpus" / "hunt.json").read_text()
-    count = kept.count('"kind"')
-    second = run_tool(*words)[1]
-    assert "has 0 trials" in first and f"has {count} trials" in second and '"rounds": 2' in (
-        tmp_path / "corpus" / "hunt.json"
-    ).read_text()
+    """The next hunt tries what failed, and draws no packet that was drawn before; of another deadline all packets."""
+    words = ["hunt", "alarm.toml", *at("races"), "--rounds", "1", "--only", "cuts"]
+
+    def hunt(until):
+        out = run_tool(*words, "--until", until)[1]
+        record = json.loads((tmp_path / "corpus" / "hunt.json").read_text())
+        left, singles = re.search(r"(\d+) packets of (\d+), each", out).groups()
+        known = re.search(r"has (\d+) trials", out)[1]
+        return int(known), len(record["failed"]), record["rounds"], int(left), int(singles)
+
+    first, second, other = hunt("700_000"), hunt("700_000"), hunt("690_000")
+    assert first[0] == 0 and second[0] == first[1] and other[0] == second[1]
+    assert (first[2], second[2], other[2]) == (1, 2, 3)
+    assert first[4] > first[3] > second[3] and second[3] < other[3] < other[4]
 
 
 def test_a_scenario_that_fails_unvaried_is_refused(at, tmp_path):

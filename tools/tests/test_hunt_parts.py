@@ -1,5 +1,6 @@
 """The parts of a hunt, by hand: what is changed in a scenario, what a run is judged by, how a failing scenario becomes
 small."""
+import copy
 import dataclasses
 import json
 import random
@@ -8,14 +9,15 @@ import pytest
 
 from avrora_tools.errors import BadInput
 from avrora_tools.hunting.causes import Finding, Uneven, look_of, uneven
-from avrora_tools.hunting.changes import FOR_GOOD, Cut, Input, Latency, Trial, record_of, trial_of, without_node
-from avrora_tools.hunting.corpus import Corpus
+from avrora_tools.hunting.changes import FOR_GOOD, Cut, Input, Latency, Left, Trial, record_of, trial_of, without_node
+from avrora_tools.hunting.corpus import Corpus, Known, Progress
 from avrora_tools.hunting.handing import Overwritten
-from avrora_tools.hunting.kinds import NAMES, Cuts, Facts, kinds_of
+from avrora_tools.hunting.kinds import NAMES, Cuts, Facts, Inputs, kinds_of, left_of, take_up
 from avrora_tools.hunting.oracles import DOUBLED, LOST, SILENT, STOPPED, WRONG, Failure, Oracle, Reference
-from avrora_tools.hunting.races import Races, Visit, stretches, sweep_command
+from avrora_tools.hunting.races import Races, sweep_command
 from avrora_tools.hunting.said import Burst, bursts_of, clashes_at, without_samples
-from avrora_tools.hunting.smaller import Scene, Smaller
+from avrora_tools.hunting.smaller import Scene, Smaller, earlier_ends, last_arrival
+from avrora_tools.hunting.visits import Visit, stretches
 from avrora_tools.hunting.waiting import Failing, Waiting
 from avrora_tools.hunting.watching import breach_in, row_of
 from avrora_tools.scenarios import Scenario
@@ -85,14 +87,21 @@ def test_a_trial_of_a_file_says_nothing_else(record):
         "{}",
         "[" * 100_000,
         '{"version": 1, "seed": NaN}',
+        '{"version": 2, "seed": 1, "rounds": 0, "failed": []}',
         '{"version": 1, "seed": 1, "rounds": Infinity, "failed": []}',
         '{"version": 1, "seed": 1, "rounds": 0, "failed": {}}',
         '{"version": 1, "seed": 1, "rounds": 0, "failed": [[]]}',
+        '{"version": 1, "seed": 1, "rounds": 0, "failed": [], "credit": []}',
+        '{"version": 1, "seed": 1, "rounds": 0, "failed": [], "arrivals": [{"node": 1}]}',
+        '{"version": 1, "seed": 1, "rounds": 0, "failed": [], "arrivals": {}}',
+        '{"version": 1, "seed": 1, "rounds": 0, "failed": [], "credit": {"cuts": {}}}',
+        '{"version": 1, "seed": 1, "rounds": 0, "failed": [], "left": {"cuts": {"count": 1}}}',
+        '{"version": 1, "seed": 1, "rounds": 0, "failed": [], "left": {"cuts": {"count": 1, "following": [5], "idle": []}}}',
     ],
 )
 def test_a_corpus_that_is_none_is_refused(tmp_path, text):
     (tmp_path / "hunt.json").write_text(text)
-    with pytest.raises(BadInput, match="no corpus of a hunt|no trial of a hunt"):
+    with pytest.raises(BadInput, match="no corpus of a hunt|no trial of a hunt|of another version"):
         Corpus(str(tmp_path))
 
 
@@ -109,9 +118,17 @@ def test_trials_are_kept_as_they_are(tmp_path):
             trial_of(record)
     corpus = Corpus(str(tmp_path / "it.hunt"))
     corpus.clear()
-    corpus.write(3, 7, [TRIAL, TRIAL])
-    again = Corpus(str(tmp_path / "it.hunt"))
-    assert again.failed == [TRIAL] and again.rounds_of(3) == 7 and again.rounds_of(4) == 0
+    assert corpus.begin(3, "a") == Progress()
+    corpus.progress = progress = Progress(7, {"cuts": 2}, {"cuts": Left(3, (TRIAL,), (TRIAL, TRIAL)), "pairs": Left(5)}, 9)
+    visits = [Visit(InputByte(2, 1), first, first + 9, frozenset({0x50, 0x51})) for first in (5, 40)]
+    corpus.take(Known([TRIAL, TRIAL], visits * 2))
+    corpus.write()
+
+    def again():
+        return Corpus(str(tmp_path / "it.hunt"))
+
+    assert again().known == Known([TRIAL], visits) and again().begin(3, "a") == progress
+    assert again().begin(4, "a") == Progress() and again().begin(3, "another program") == Progress(7)
     (tmp_path / "it.hunt" / "hunt.json").write_text('{"version": 1}')
     with pytest.raises(BadInput, match="no corpus"):
         Corpus(str(tmp_path / "it.hunt"))
@@ -202,6 +219,13 @@ def test_a_seed_draws_the_same_and_all_is_a_scenario():
     assert {trial.kind for trial in drawn(1) if trial} == set(NAMES)
 
 
+def test_no_input_comes_before_the_first_start_of_the_scenario():
+    """Before that a program may not listen yet, and right firmware loses its number."""
+    inputs = Inputs(facts())
+    ats = [inputs.draw(random.Random(seed)).changes[0].at for seed in range(200)]
+    assert min(ats) >= 100 and any(at < 300 for at in ats) and any(at > 300 for at in ats)
+
+
 def test_each_packet_is_lost_once_and_what_follows_is_lost_too():
     cuts, random_ = Cuts(facts(), random.Random(1)), random.Random(2)
     assert cuts.singles == 3
@@ -213,9 +237,31 @@ def test_each_packet_is_lost_once_and_what_follows_is_lost_too():
     assert [it.changes for it in cuts.following] == [
         (Cut(1, 0, 5_000, 6_001), Cut(1, 0, 9_000, 9_901)), (Cut(1, 0, 5_000, 6_001), Cut(1, 0, 20_000, 20_901)),
     ]  # fmt: skip
+    cuts.passed(Trial("cuts", "a packet is lost", (Cut(0, 1, 50, 60),)), facts().bursts)
+    assert [it.changes for it in cuts.idle] == [(Cut(0, 1, 50, 60), Cut(0, 1, 100, 2_101))]
     full = Trial("cuts", "", tuple(Cut(1, 0, at, at + 9) for at in (1, 20, 40)))
     cuts.passed(full, [Burst(1, 9_000, 9_900, b"de")])
     assert len(cuts.following) == 2
+    rows_of = [it for it in (cuts.draw(random_) for _ in range(60)) if it.what == "2 packets of a link are lost"]
+    assert [it.changes[0].sender for it in rows_of] == [1, 1, 0]  # first what followed from an answer
+
+
+def test_kinds_go_on_where_they_were():
+    """Two rounds in one hunt draw what a round each of two hunts draws."""
+    draw = [random.Random(f"1 {i}") for i in range(8)]
+    whole = kinds_of(facts(), random.Random(1), None)
+    cut = kinds_of(facts(), random.Random(1), None)
+    follows = [Burst(1, 5_000, 6_000, b"de"), Burst(1, 9_000, 9_900, b"de")]
+    for kinds in (whole, cut):
+        for kind in kinds:
+            for it in map(copy.copy, draw[:4]):
+                kind.draw(it)
+        kinds[1].passed(Trial("cuts", "", (Cut(1, 0, 5_000, 6_001),)), follows)
+    again = kinds_of(facts(), random.Random(1), None)
+    take_up(again, left_of(cut))
+    second = [[kind.draw(it) for kind in kinds for it in map(copy.copy, draw)] for kinds in (whole, again)]
+    assert second[0] == second[1]
+    assert any(len(it.changes) == 2 for it in second[0] if it and it.kind == "cuts")
 
 
 def test_a_node_is_absent_for_a_while():
@@ -277,6 +323,47 @@ def test_a_scenario_becomes_no_other_failure():
     small, failure = smaller.smaller(scene, smaller.failure(scene))
     assert len(small.document["node"]) == 3 and failure.parts == {b"a", b"b"}
     assert small.trial.changes == (Cut(1, 0, 400, 500),)
+
+
+class Detour(FakeRunner):
+    """As FakeRunner; where the link is cut, node 2 sends too."""
+
+    def outputs(self, documents):
+        for document, output in zip(documents, super().outputs(documents)):
+            nodes = len(document["node"])
+            yield output + (b"" if b"serial" in output else rows(f"500 {nodes - 1} sent AA"))
+
+
+@pytest.mark.parametrize("may_renumber", [True, False])
+def test_what_only_the_failing_run_uses_stays(may_renumber):
+    """The right run would not show that the rest works without it."""
+    document = {**DOCUMENT, "link": [*DOCUMENT["link"], {"from": 2, "to": 0}]}
+    scene = Scene(document, 50_000, Trial("cuts", "", (Cut(1, 0, 400, 500),)))
+    smaller = Smaller(Detour(), lambda count: Oracle(range(count)), may_renumber, lambda: False)
+    small, _ = smaller.smaller(scene, smaller.failure(scene))
+    assert smaller.only_failing(scene) == {2} and len(small.document["node"]) == 3
+    assert [(it["from"], it["to"]) for it in small.document["link"]] == [(1, 0), (2, 0)]
+
+
+@pytest.mark.parametrize(
+    "changes, least",
+    [
+        ((Cut(1, 0, 400, 500),), 40_000),
+        ((Cut(1, 0, 400, 500), Cut(1, 0, 70_000, FOR_GOOD)), 40_000),
+        ((Cut(1, 0, 400, 40_000),), 60_000),
+        ((Input(0, 59_000, 400, "00"),), 60_000),
+        ((Input(0, 59_000, 2_000, "0000"),), 80_000),
+        ((Input(2, 350, 400, "024142"),), None),  # it comes last where nothing varies
+        ((Latency(0, 1, 9),), 40_000),
+    ],
+)
+def test_a_run_ends_no_earlier_than_what_is_changed(changes, least):
+    late = {"node": 2, "at": 69_000, "every": 400, "hex": "024142"}
+    document = {**DOCUMENT, "cycles": 150_000, "input": [DOCUMENT["input"][0], late]}
+    scene = Scene(document, 100_000, Trial("pairs", "", changes))
+    ends = list(earlier_ends(scene, 100_000 - last_arrival(document)))
+    assert min((it.until for it in ends), default=None) == least
+    assert all(it.document["cycles"] - it.until == 50_000 for it in ends)
 
 
 def test_a_check_knows_nodes_by_their_numbers():
@@ -365,11 +452,16 @@ def test_fresh_code_is_swept_first_and_then_drawn_spans_too():
     assert races.swept_[:2] == [(1, None), (2, None)] and races.unsayable == 1 and races.is_wide
     assert [first == 5_000 for first, _ in races.swept_[2:]] == [True, False, True, False, True, False, True]
     assert sorted(first for first, per_place in races.swept_[2:] if per_place is None) == [3, 4, 5]
+    later = Sweeping([Visit(InputByte(2, 1), first, first + 9, frozenset([code])) for first, code in codes])
+    later.skip(4)
+    for _ in range(5):
+        later.turn(random.Random(1), None, None)
+    assert later.swept_ == races.swept_[4:]
 
 
 def test_a_sweep_of_what_fails():
     command = sweep_command(InputByte(2, 1, is_alone=True), (5, 40), "a b.elf")
-    assert command == "--input 2:1=1..52 --alone -e 'a b.elf'"
+    assert command == "--input 2:1=5..40 --alone -e 'a b.elf'"
 
 
 def test_looks_of_causes():

@@ -2,14 +2,15 @@
 minutes."""
 import argparse
 import os
+from dataclasses import dataclass
 
 from avrora_tools import cases, cli, files, programs, scenarios, shipping
 from avrora_tools.commands.sweep import document_of, folder_of, processors
 from avrora_tools.errors import BadInput, BadWords, Status
 from avrora_tools.hunting import kinds, telling
-from avrora_tools.hunting.causes import Lines
+from avrora_tools.hunting.causes import Finding, Lines
 from avrora_tools.hunting.changes import Document
-from avrora_tools.hunting.corpus import Corpus
+from avrora_tools.hunting.corpus import Corpus, Known, Progress
 from avrora_tools.hunting.handing import Handing, Sharings
 from avrora_tools.hunting.hunt import Hunt, Means
 from avrora_tools.hunting.oracles import Oracle
@@ -20,6 +21,7 @@ from avrora_tools.hunting.smaller import OracleOf
 from avrora_tools.hunting.trials import Runner, Scenes, processor_seconds, scenes
 from avrora_tools.hunting.watching import Conditions, WatchingTails
 from avrora_tools.sweeping.cluster import ClusterTails
+from avrora_tools.sweeping.journal import digest
 from avrora_tools.sweeping.limits import Limit
 from avrora_tools.sweeping.simulation import ProcessTails, Simulator
 from avrora_tools.sweeping.verdicts import CaseCheck, Compare, PredicateCheck, nodes_of, predicate_of
@@ -82,11 +84,41 @@ def run(arguments: argparse.Namespace) -> int:
             raise BadInput(f"the scenario fails as it is, with nothing varied: {hunt.unmoved_failure.text}")
         print_plan(hunt, corpus)
         corpus.clear()
-        first = corpus.rounds_of(arguments.seed)
-        hunt.run(first, corpus.failed, arguments.rounds, lambda text: print(text, flush=True))
+        keeper = Keeper(corpus, os.path.dirname(arguments.scenario))
+        progress = corpus.begin(arguments.seed, whose(document, until, simulator.folder))
+        hunt.run(progress, corpus.known, arguments.rounds, keeper)
         telling.print_hunt(hunt, corpus, arguments.scenario, check_words(arguments, hunt))
-        corpus.write(arguments.seed, hunt.rounds, hunt.failing)
+        corpus.write(lasting=True)
     return Status.NOT_MET if hunt.findings else limit.status(Status.GOOD)
+
+
+@dataclass(frozen=True)
+class Keeper:
+    """Keeps what a hunt finds at once: one that is killed has lost nothing of it."""
+
+    corpus: Corpus
+    folder: str  # of the images
+
+    def say(self, text: str) -> None:
+        print(text, flush=True)
+
+    def found(self, number: int, finding: Finding) -> None:
+        telling.write_finding(self.corpus.found(number), finding, self.corpus.seed, self.folder)
+
+    def failed(self, known: Known) -> None:
+        self.corpus.take(known)
+        self.corpus.write()
+
+    def came(self, progress: Progress) -> None:
+        self.corpus.progress = progress
+        self.corpus.write()
+
+
+def whose(document: Document, until: int, folder: str) -> str:
+    """A hash of the scenario, its images and the deadline."""
+    images = sorted({node["image"] for node in document["node"]})
+    contents = {name: files.read_bytes(os.path.join(folder, name)) for name in images}
+    return digest({"scenario": document, "until": until, "images": digest(contents)})
 
 
 def check_words(arguments: argparse.Namespace, hunt: Hunt) -> list[str]:
@@ -108,7 +140,7 @@ def print_plan(hunt: Hunt, corpus: Corpus) -> None:
     said = len(hunt.facts.bursts)
     nodes, cycles = len(hunt.document["node"]), int(hunt.document["cycles"])
     print(f"{nodes} nodes, {said:,} packets said where nothing varies; deadline {hunt.until:,}, ", end="")
-    print(f"runs end at {cycles:,}; {files.shown(corpus.folder)} has {len(corpus.failed):,} trials", flush=True)
+    print(f"runs end at {cycles:,}; {files.shown(corpus.folder)} has {len(corpus.known.trials):,} trials", flush=True)
 
 
 def prepared_document(arguments: argparse.Namespace) -> tuple[Document, int]:

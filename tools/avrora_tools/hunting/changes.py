@@ -12,6 +12,8 @@ Document = Mapping[str, Any]
 
 FOR_GOOD = 2**40  # where a cut ends that does not
 
+MOST_WAITING = 10_000  # trials that follow from others, and are not tried yet
+
 # What a trial may say of itself in a file, which may be a stranger's.
 KIND, HEX = re.compile("[a-z]{1,20}"), re.compile("(?:[0-9A-Fa-f]{2})*")
 
@@ -111,6 +113,16 @@ class Trial:
 
     def with_changes(self, changes: Iterable[Change]) -> "Trial":
         return dataclasses.replace(self, changes=tuple(changes))
+
+
+@dataclasses.dataclass(frozen=True)
+class Left:
+    """What a kind has still to draw that goes through a list: so many of the list, and what followed from others, by
+    whether those changed anything."""
+
+    count: int = 0
+    following: tuple[Trial, ...] = ()
+    idle: tuple[Trial, ...] = ()
 
 
 def record_of(trial: Trial) -> dict[str, Any]:

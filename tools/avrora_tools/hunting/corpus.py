@@ -2,17 +2,63 @@
 import json
 import os
 import re
+from collections.abc import Mapping, Sequence
+from dataclasses import dataclass, field
 from typing import Any
 
 from avrora_tools import files
 from avrora_tools.errors import BadInput
-from avrora_tools.hunting.changes import Trial, record_of, trial_of
+from avrora_tools.hunting.changes import MOST_WAITING, Left, Trial, record_of, trial_of
+from avrora_tools.hunting.visits import Visit
 from avrora_tools.writing import Folder
 
 STATE = "hunt.json"
 FOUND = re.compile(r"(?:found-[0-9]+(?:-right)?\.toml|race-[0-9]+\.toml(?:\.state|\.moves)?)")
 VERSION = 1
-MOST_TRIALS = 1_000
+MOST_TRIALS, MOST_ARRIVALS = 1_000, 100
+
+
+@dataclass(frozen=True)
+class Known:
+    """What failed: trials, and spans of arrivals."""
+
+    trials: Sequence[Trial] = ()
+    arrivals: Sequence[Visit] = ()
+
+    @classmethod
+    def of_record(cls, record: Mapping[str, Any]) -> "Known":
+        trials = [trial_of(it) for it in record["failed"][:MOST_TRIALS]]
+        return cls(trials, [Visit.of_record(it) for it in record.get("arrivals", [])[:MOST_ARRIVALS]])
+
+
+@dataclass(frozen=True)
+class Progress:
+    """How far the rounds of a seed came: how many were made, and what the next one draws from."""
+
+    rounds: int = 0
+    credit: Mapping[str, int] = field(default_factory=dict)  # of kinds that found something of late
+    left: Mapping[str, Left] = field(default_factory=dict)  # by kinds
+    turns: int = 0  # of sweeps
+
+    @classmethod
+    def of_record(cls, record: Mapping[str, Any]) -> "Progress":
+        credit = {str(name): int(count) for name, count in record.get("credit", {}).items()}
+        left = {str(name): left_of_record(it) for name, it in record.get("left", {}).items()}
+        return cls(int(record["rounds"]), credit, left, int(record.get("turns", 0)))
+
+    def record(self) -> dict[str, Any]:
+        left = {name: record_of_left(it) for name, it in self.left.items()}
+        return {"rounds": self.rounds, "credit": dict(self.credit), "left": left, "turns": self.turns}
+
+
+def record_of_left(left: Left) -> dict[str, Any]:
+    waiting = {"following": left.following, "idle": left.idle}
+    return {"count": left.count, **{name: [record_of(it) for it in trials] for name, trials in waiting.items()}}
+
+
+def left_of_record(record: Mapping[str, Any]) -> Left:
+    following, idle = (tuple(map(trial_of, record[name][:MOST_WAITING])) for name in ("following", "idle"))
+    return Left(max(0, int(record["count"])), following, idle)
 
 
 class Corpus:
@@ -20,9 +66,10 @@ class Corpus:
 
     def __init__(self, folder: str) -> None:
         self.folder = folder
-        self.rounds = 0  # that were made, of the seed
-        self.seed: int | None = None
-        self.failed: list[Trial] = []
+        self.seed, self.whose = 0, ""  # the seed of the rounds, and what they were rounds of
+        self.progress = Progress()
+        self.trials: dict[str, Trial] = {}  # that failed, by their texts
+        self.arrivals: dict[Visit, None] = {}
         path = os.path.join(folder, STATE)
         if os.path.lexists(path):
             self.read(path)
@@ -32,24 +79,46 @@ class Corpus:
             found: Any = json.loads(files.read_named_text(path))
             if found["version"] != VERSION:
                 raise BadInput(f"{files.shown(path)}: of another version of this tool")
-            self.seed, self.rounds = int(found["seed"]), int(found["rounds"])
-            self.failed = [trial_of(record) for record in found["failed"][:MOST_TRIALS]]
-        except (ValueError, KeyError, TypeError, OverflowError, RecursionError) as fault:
+            self.seed, self.whose = int(found["seed"]), str(found.get("whose", ""))
+            self.progress = Progress.of_record(found)
+            self.take(Known.of_record(found))
+        except (ValueError, KeyError, TypeError, AttributeError, OverflowError, RecursionError) as fault:
             raise BadInput(f"{files.shown(path)}: no corpus of a hunt: {type(fault).__name__}") from None
 
-    def rounds_of(self, seed: int) -> int:
-        """How many rounds of a seed were made."""
-        return self.rounds if seed == self.seed else 0
+    @property
+    def known(self) -> Known:
+        """All that failed."""
+        return Known(list(self.trials.values()), list(self.arrivals))
 
-    def write(self, seed: int, rounds: int, failed: list[Trial]) -> None:
-        known = {json.dumps(record_of(trial), sort_keys=True): trial for trial in [*self.failed, *failed]}
+    def take(self, known: Known) -> None:
+        """Adds what failed, each once, as far as there is room."""
+        for trial in known.trials:
+            if len(self.trials) < MOST_TRIALS:
+                self.trials.setdefault(json.dumps(record_of(trial), sort_keys=True), trial)
+        for visit in known.arrivals:
+            if len(self.arrivals) < MOST_ARRIVALS:
+                self.arrivals.setdefault(visit)
+
+    def begin(self, seed: int, whose: str) -> Progress:
+        """How far the rounds of a seed came, of what `whose` says: a hash of all that decides a run. Of another seed
+        none was made. Of another program, say, other ones follow, which go through all packets and visits again."""
+        if seed != self.seed:
+            self.progress = Progress()
+        elif whose != self.whose:
+            self.progress = Progress(self.progress.rounds)
+        self.seed, self.whose = seed, whose
+        return self.progress
+
+    def write(self, lasting: bool = False) -> None:
         record = {
             "version": VERSION,
-            "seed": seed,
-            "rounds": rounds,
-            "failed": [record_of(trial) for trial in list(known.values())[:MOST_TRIALS]],
+            "seed": self.seed,
+            "whose": self.whose,
+            **self.progress.record(),
+            "failed": [record_of(it) for it in self.trials.values()],
+            "arrivals": [it.record() for it in self.arrivals],
         }
-        files.write_whole(os.path.join(self.folder, STATE), json.dumps(record, indent=1) + "\n")
+        files.write_whole(os.path.join(self.folder, STATE), json.dumps(record) + "\n", lasting)
 
     def found(self, number: int) -> str:
         """The file of a finding."""

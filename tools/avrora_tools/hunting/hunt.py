@@ -2,13 +2,15 @@
 import random
 import time
 from collections import Counter
-from collections.abc import Callable, Iterator, Sequence
+from collections.abc import Iterator, Sequence
 from dataclasses import dataclass
+from typing import Protocol
 
 from avrora_tools.hunting.causes import Finding, Lines, look_of
 from avrora_tools.hunting.changes import Document, Trial
+from avrora_tools.hunting.corpus import Known, Progress
 from avrora_tools.hunting.handing import Handing
-from avrora_tools.hunting.kinds import Facts, Kind, kinds_of
+from avrora_tools.hunting.kinds import Facts, Kind, kinds_of, left_of, take_up
 from avrora_tools.hunting.oracles import Failure, Oracle, Reference
 from avrora_tools.hunting.races import NAME as ARRIVALS
 from avrora_tools.hunting.races import Races
@@ -25,7 +27,21 @@ RARE = 4  # and of those kinds that seldom find something
 RARE_KINDS = ("latencies", "losses")
 MOST_FOR_FINDING = 3  # as many times a turn, where a kind found new causes of late
 
-Told = Callable[[str], None]
+
+class Listener(Protocol):
+    """Hears of a hunt while it goes on, so that what is known is kept before more is tried."""
+
+    def say(self, text: str) -> None:
+        """A line for the user."""
+
+    def found(self, number: int, finding: Finding) -> None:
+        """The finding of this number is new, or has a smaller scenario."""
+
+    def failed(self, known: Known) -> None:
+        """This failed."""
+
+    def came(self, progress: Progress) -> None:
+        """So far the rounds came."""
 
 
 @dataclass(frozen=True)
@@ -60,28 +76,41 @@ class Hunt:
         self.findings: list[Finding] = []
         self.waiting = Waiting()  # what failed and was not made small
         self.small_runs = 0  # that this took so far
-        self.failing: list[Trial] = []
-        self.rounds = 0
-        self.kinds: list[Kind] = []
+        self.progress = Progress()
+        self.kinds = kinds_of(self.facts, random.Random(f"{seed}"), chosen)
 
-    def run(self, first_round: int, known: Sequence[Trial], most_rounds: int | None, tell: Told) -> None:
-        """Tries what failed before, and then makes rounds until the limit."""
-        self.rounds = first_round
-        self.kinds = kinds_of(self.facts, random.Random(f"{self.seed} {first_round}"), self.chosen)
-        self.try_all(list(known), {}, tell)
-        while not self.limit.is_over(LOOKING) and (most_rounds is None or self.rounds - first_round < most_rounds):
-            self.round(self.kinds, tell)
-            self.rounds += 1
+    @property
+    def rounds(self) -> int:
+        """How many were made, of the seed."""
+        return self.progress.rounds
+
+    def run(self, progress: Progress, known: Known, most_rounds: int | None, listener: Listener) -> None:
+        """Tries what failed before, and then makes rounds until the limit, behind those of an earlier hunt."""
+        self.progress = progress
+        take_up(self.kinds, progress.left)
+        self.try_all(known.trials, {}, listener)
+        self.credit = Counter(progress.credit)
+        if self.races:
+            for visit in known.arrivals:
+                self.take_races(self.races.again(visit, self.oracle, self.reference), listener)
+            self.races.skip(progress.turns)
+        last = progress.rounds + most_rounds if most_rounds else None
+        while not self.limit.is_over(LOOKING) and self.rounds != last:
+            self.round(self.kinds, listener)
+            if self.limit.signal is None:  # a round that was cut is made again
+                turns = self.races.turns if self.races else 0
+                self.progress = Progress(self.rounds + 1, dict(self.credit), left_of(self.kinds), turns)
+                listener.came(self.progress)
         if most_rounds is None:
-            self.look_closer(1.0, tell)
+            self.look_closer(1.0, listener)
         self.fold()
 
-    def look_closer(self, share: float, tell: Told) -> None:
+    def look_closer(self, share: float, listener: Listener) -> None:
         """Makes more of what failed small: what looks alike may have several causes."""
         while self.waiting.count() and not self.limit.is_over():
             if self.small_runs >= share * self.runner.runs:
                 return
-            self.take_small(self.waiting.next(), tell)
+            self.take_small(self.waiting.next(), listener)
 
     def fold(self) -> None:
         """What was not made small is counted with a finding of the same look."""
@@ -95,18 +124,15 @@ class Hunt:
                 found.note(failing.trial.kind, failing.failure)
                 self.findings.append(found)
 
-    def round(self, kinds: Sequence[Kind], tell: Told) -> None:
+    def round(self, kinds: Sequence[Kind], listener: Listener) -> None:
         by_name = {kind.name: kind for kind in kinds}
         trials = [trial for kind in kinds for trial in self.drawn(kind)]
-        self.try_all(trials, by_name, tell)
+        self.try_all(trials, by_name, listener)
         self.credit = Counter({name: credit - 1 for name, credit in self.credit.items() if credit > 1})
         if self.races and not self.limit.is_over():
             random_ = random.Random(f"{self.seed} {self.rounds} {ARRIVALS}")
-            for found in self.races.turn(random_, self.oracle, self.reference):
-                self.failed[ARRIVALS] += found.count
-                self.take_race(found, tell)
-            self.tried[ARRIVALS] = self.races.runs
-        self.look_closer(SMALL_SHARE, tell)
+            self.take_races(self.races.turn(random_, self.oracle, self.reference), listener)
+        self.look_closer(SMALL_SHARE, listener)
 
     def drawn(self, kind: Kind) -> Iterator[Trial]:
         """The trials of a kind in this round, by the seed and the round alone."""
@@ -116,7 +142,7 @@ class Hunt:
             if (trial := kind.draw(random_)) and trial.changes:
                 yield trial
 
-    def try_all(self, trials: Sequence[Trial], kinds: dict[str, Kind], tell: Told) -> None:
+    def try_all(self, trials: Sequence[Trial], kinds: dict[str, Kind], listener: Listener) -> None:
         byte_time = self.facts.byte_time
         fresh: list[tuple[Trial, Failure]] = []
         for trial, output in self.runner.tried(self.document, trials):
@@ -124,29 +150,29 @@ class Hunt:
             failure = self.oracle.failure(self.reference, trial, output)
             if failure:
                 self.failed[trial.kind] += 1
-                self.failing.append(trial)
+                listener.failed(Known([trial]))
                 fresh.append((trial, failure))
             elif trial.kind in kinds:
                 kinds[trial.kind].passed(trial, bursts_of(output, byte_time))
         for trial, failure in fresh:
-            self.take(trial, failure, tell)
+            self.take(trial, failure, listener)
 
-    def take(self, trial: Trial, failure: Failure, tell: Told) -> None:
+    def take(self, trial: Trial, failure: Failure, listener: Listener) -> None:
         """Keeps a failing trial for a closer look; the first one of its look has that at once."""
         failing = Failing(trial, failure, look_of(trial, self.document, failure))
         if self.waiting.knows(failing.look) or self.limit.is_over():
             self.waiting.put(failing)
         else:
-            self.take_small(failing, tell)
+            self.take_small(failing, listener)
 
-    def take_small(self, failing: Failing, tell: Told) -> None:
+    def take_small(self, failing: Failing, listener: Listener) -> None:
         before = self.runner.runs
         self.waiting.count_small(failing)
         if found := self.small(failing):
             found.note(failing.trial.kind, failing.failure)
-            self.merge(found, failing.trial.kind, tell)
+            self.merge(found, failing.trial.kind, listener)
         else:
-            tell(f"a worker of the cluster said what is not so here: {failing.failure.text}")
+            listener.say(f"a worker of the cluster said what is not so here: {failing.failure.text}")
         self.small_runs += self.runner.runs - before
 
     def small(self, failing: Failing) -> Finding | None:
@@ -163,21 +189,30 @@ class Hunt:
         overwritten = self.handing.overwritten(scene)
         return Finding(look, wrong, scene, failing.trial, failing.look, alone, uneven, overwritten)
 
-    def merge(self, found: Finding, kind: str, tell: Told) -> None:
+    def merge(self, found: Finding, kind: str, listener: Listener) -> None:
         """Findings of one cause are one."""
-        for finding in self.findings:
+        for number, finding in enumerate(self.findings, 1):
             if found.is_of(finding):
                 finding.kinds += found.kinds
                 finding.texts += found.texts
                 if found.scene and finding.scene and found.scene.size() < finding.scene.size():
                     finding.scene, finding.failure, finding.look = found.scene, found.failure, found.look
                     finding.lines, finding.uneven, finding.overwritten = found.lines, found.uneven, found.overwritten
+                    listener.found(number, finding)
                 return
-        self.findings.append(found)
         self.credit[kind] += 2
-        self.tell_found(tell, kind, found.failure.text)
+        self.add(found, kind, found.failure.text, listener)
 
-    def take_race(self, found: Finding, tell: Told) -> None:
+    def take_races(self, findings: Sequence[Finding], listener: Listener) -> None:
+        """What a sweep found."""
+        assert self.races
+        listener.failed(Known(arrivals=self.races.failing))
+        self.tried[ARRIVALS] = self.races.runs
+        for found in findings:
+            self.failed[ARRIVALS] += found.count
+            self.take_race(found, listener)
+
+    def take_race(self, found: Finding, listener: Listener) -> None:
         for finding in self.findings:
             if finding.look == found.look:
                 finding.kinds += found.kinds
@@ -189,10 +224,12 @@ class Hunt:
                 found.scene, found.failure = smaller.smaller(found.scene, wrong)
             else:
                 found.scene = None
-        self.findings.append(found)
-        self.tell_found(tell, ARRIVALS, found.places[0])
+        self.add(found, ARRIVALS, found.places[0], listener)
 
-    def tell_found(self, tell: Told, kind: str, text: str) -> None:
+    def add(self, found: Finding, kind: str, text: str, listener: Listener) -> None:
+        """A finding is new: its files are written before it is told."""
+        self.findings.append(found)
+        listener.found(len(self.findings), found)
         runs = self.runner.runs + (self.races.runs if self.races else 0)
-        tell(f"found after {runs:,} runs ({processor_seconds():,.0f} s of processors), by {kind}: {text}")
+        listener.say(f"found after {runs:,} runs ({processor_seconds():,.0f} s of processors), by {kind}: {text}")
 

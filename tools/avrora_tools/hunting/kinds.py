@@ -4,16 +4,27 @@ A kind is told what came of each of its trials, and may draw what follows from t
 because the first was cut can be cut too."""
 import math
 import random
-from collections.abc import Sequence
+from collections.abc import Mapping, Sequence
 from typing import Protocol
 
-from avrora_tools.hunting.changes import FOR_GOOD, Change, Cut, Document, Input, Latency, Trial, ends_of, inputs_of
+from avrora_tools.hunting.changes import (
+    FOR_GOOD,
+    MOST_WAITING,
+    Change,
+    Cut,
+    Document,
+    Input,
+    Latency,
+    Left,
+    Trial,
+    ends_of,
+    inputs_of,
+)
 from avrora_tools.hunting.said import Burst
 from avrora_tools.sweeping.events import EVERY
 
 MOST_CUTS = 3  # packets of one link in a row
 LONGEST_ABSENCE = 8  # the part of the time to the deadline for which a node is absent at most
-MOST_WAITING = 10_000  # cuts that follow from others, and are not tried yet
 LEAST_ROOM = 10_000  # cycles within which starts are drawn at least
 LATENCIES = (1, 4_000)
 
@@ -113,17 +124,20 @@ class Cuts:
         self.single = [(burst, to) for burst in facts.bursts for to in facts.hearers.get(burst.node, [])]
         random_.shuffle(self.single)
         self.singles = len(self.single)
-        self.following: list[Trial] = []
+        self.following: list[Trial] = []  # of cuts after which nodes sent otherwise
+        self.idle: list[Trial] = []  # of cuts that changed nothing that was sent
 
     def draw(self, random_: random.Random) -> Trial | None:
         if not self.singles:
             return None
         chance = random_.random()
-        if self.following and (chance < 0.4 or not self.single):
+        if self.following and (chance < 0.4 or not self.single and chance < 0.85):
             return self.following.pop(random_.randrange(len(self.following)))
         if self.single and chance < 0.85:
             burst, to = self.single.pop()
             return Trial(self.name, "a packet is lost", (cut_of(burst, to),))
+        if self.idle and chance < 0.9:
+            return self.idle.pop(random_.randrange(len(self.idle)))
         return self.other(random_)
 
     def other(self, random_: random.Random) -> Trial:
@@ -154,17 +168,27 @@ class Cuts:
         changes = [Cut(*link, burst.first, burst.first + length) for link in links]
         return Trial(self.name, "a node neither hears nor is heard for a while", tuple(changes))
 
+    def left(self) -> Left:
+        return Left(len(self.single), tuple(self.following), tuple(self.idle))
+
+    def take_up(self, left: Left) -> None:
+        """Goes on where an earlier hunt was."""
+        del self.single[left.count :]
+        self.following, self.idle = list(left.following), list(left.idle)
+
     def passed(self, trial: Trial, bursts: Sequence[Burst]) -> None:
-        """Of what was sent behind the last cut of a link the next packets can be cut too."""
+        """Of what was sent behind the last cut of a link the next packets can be cut too: first where somebody answered
+        the cut, so that a protocol's second try is lost as well as its first one."""
         cuts = trial.cuts()
         is_row = len({(cut.sender, cut.hearer) for cut in cuts}) == 1 and len(cuts) == len(trial.changes)
-        if not is_row or len(cuts) >= MOST_CUTS or len(self.following) > MOST_WAITING:
+        waiting = self.idle if list(bursts) == list(self.facts.bursts) else self.following
+        if not is_row or len(cuts) >= MOST_CUTS or len(waiting) > MOST_WAITING:
             return
         last = cuts[-1]
         behind = [it for it in bursts if it.node == last.sender and it.first >= last.end]
         for burst in behind[:2]:
             changes = (*trial.changes, cut_of(burst, last.hearer))
-            self.following.append(Trial(self.name, f"{len(changes)} packets of a link are lost", changes))
+            waiting.append(Trial(self.name, f"{len(changes)} packets of a link are lost", changes))
 
 
 def cut_of(burst: Burst, hearer: int) -> Cut:
@@ -208,6 +232,7 @@ class Inputs:
 
     def __init__(self, facts: Facts) -> None:
         self.inputs = [it for it in facts.inputs if len(it.hex) > 2]
+        self.first = min((it.at for it in facts.inputs if it.hex), default=0)  # before it no receiver need be enabled
         self.loses = facts.has_check
         self.until = facts.until
 
@@ -221,7 +246,9 @@ class Inputs:
             every = min(log_uniform(random_, 200, 2 * it.every), EVERY.stop - 1)
             return Trial(self.name, "bytes arrive at another distance", (Input(it.node, it.at, every, it.hex),))
         if way == 1:
-            at = max(1, it.at + random_.choice((-1, 1)) * log_uniform(random_, 1, it.every * count))
+            by = log_uniform(random_, 1, it.every * count)
+            is_earlier = random_.random() < 0.5 and it.at - by >= self.first
+            at = it.at - by if is_earlier else it.at + by
             return Trial(self.name, "all bytes arrive earlier or later", (Input(it.node, at, it.every, it.hex),))
         place = 2 * random_.randrange(1, count)
         doubled = it.hex[: place + 2] + it.hex[place : place + 2] * (way == 2) + it.hex[place + 2 :]
@@ -273,8 +300,29 @@ class Pairs:
             return None
         return Trial(self.name, f"{first.what}, and {second.what}", (*first.changes, *second.changes))
 
+    def left(self) -> Left:
+        return next((kind.left() for kind in self.kinds if isinstance(kind, Cuts)), Left())
+
+    def take_up(self, left: Left) -> None:
+        """Goes on where an earlier hunt was."""
+        for kind in self.kinds:
+            if isinstance(kind, Cuts):
+                kind.take_up(left)
+
     def passed(self, trial: Trial, bursts: Sequence[Burst]) -> None:
         pass
+
+
+def left_of(kinds: Sequence[Kind]) -> dict[str, Left]:
+    """What those kinds have still to draw that go through a list, by their names."""
+    return {kind.name: kind.left() for kind in kinds if isinstance(kind, (Cuts, Pairs))}
+
+
+def take_up(kinds: Sequence[Kind], left: Mapping[str, Left]) -> None:
+    """Kinds go on where an earlier hunt was."""
+    for kind in kinds:
+        if isinstance(kind, (Cuts, Pairs)) and kind.name in left:
+            kind.take_up(left[kind.name])
 
 
 def touched(trial: Trial) -> set[object]:

@@ -3,7 +3,7 @@ the simulator tells. Behind these places it sweeps drawn spans."""
 import dataclasses
 import random
 import shlex
-from collections.abc import Callable, Iterator, Mapping, Sequence
+from collections.abc import Callable, Iterator, Mapping
 
 from avrora_tools.errors import BadInput, BadWords
 from avrora_tools.hunting.causes import Finding
@@ -11,13 +11,13 @@ from avrora_tools.hunting.changes import Document, Trial, inputs_of
 from avrora_tools.hunting.handing import Sharings
 from avrora_tools.hunting.oracles import Failure, Oracle, Reference
 from avrora_tools.hunting.smaller import Scene
+from avrora_tools.hunting.visits import Visit, about, in_rounds, stretches
 from avrora_tools.hunting.watching import Conditions
 from avrora_tools.occurrences import Executions
 from avrora_tools.programs import Program, Programs
 from avrora_tools.sweeping import findings as grouping
 from avrora_tools.sweeping.events import EVERY, InputByte, Move, Moved, MovedScenario, Script, Span, moved_scenario, script_of
 from avrora_tools.sweeping.limits import Limit
-from avrora_tools.sweeping.plans import spread
 from avrora_tools.sweeping.sharing import Sharing
 from avrora_tools.sweeping.simulation import ProcessTails, Simulator
 from avrora_tools.sweeping.sweep import Options, Sweep
@@ -27,24 +27,10 @@ NAME = "arrivals"
 RACE = "a race"
 HANDLER = "USART0_RX_vect"
 
-NEAR = 100  # cycles between two executions of one visit
-LONGEST = 2_000  # cycles of a visit that are swept at once
-BEFORE, BEHIND = 12, 12  # cycles that are swept about a visit
 WIDE = 3_000  # of a drawn span
 PER_PLACE = 3  # classes of each interrupted instruction that are run of a drawn span
 MOST_VISITS = 40  # of one byte
 VISIT_SHARE = 0.1  # of the time of a hunt that one visit may take
-
-
-@dataclasses.dataclass(frozen=True)
-class Visit:
-    """A node is at code between two uses of something that its handler uses too: the byte that may come then, the span,
-    the addresses."""
-
-    event: InputByte
-    first: int
-    last: int
-    addresses: frozenset[int]
 
 
 @dataclasses.dataclass(frozen=True)
@@ -93,6 +79,7 @@ class Races:
         self.events = list(self.bytes_that_move())
         self.waiting = self.visits()
         self.ready: list[Visit] = []
+        self.failing: list[Visit] = []  # spans about what was found
         self.seen: set[tuple[str, frozenset[int]]] = set()
         self.unsayable = 0
         self.runs = 0
@@ -158,7 +145,18 @@ class Races:
         return (self.document["node"][visit.event.node]["image"], visit.addresses) in self.seen
 
     def turn(self, random_: random.Random, oracle: Oracle, reference: Reference) -> list[Finding]:
-        """Sweeps one visit, or a drawn span: where no visit is left, and each second turn once all code was swept."""
+        """Sweeps one visit, or a drawn span."""
+        if chosen := self.chosen():
+            return self.swept(*chosen, Options(), oracle, reference)
+        visit = self.drawn(random_)
+        scenario = self.moved(visit) if visit else None
+        if visit is None or scenario is None:
+            return []
+        return self.swept(visit, scenario, Options(per_place=PER_PLACE), oracle, reference)
+
+    def chosen(self) -> tuple[Visit, MovedScenario] | None:
+        """The visit of the next turn and its moves. None where that is a drawn span's: where no visit is left, and each
+        second turn once all code was swept."""
         self.turns += 1
         while visit := self.next_visit():
             if self.is_known(visit) and self.turns % 2:
@@ -166,14 +164,24 @@ class Races:
                 break
             if scenario := self.moved(visit):
                 self.seen.add((self.document["node"][visit.event.node]["image"], visit.addresses))
-                return self.swept(visit, scenario, Options(), oracle, reference)
+                return visit, scenario
             self.unsayable += 1
         self.is_wide = True
-        visit = self.drawn(random_)
-        scenario = self.moved(visit) if visit else None
-        if visit is None or scenario is None:
+        return None
+
+    def skip(self, turns: int) -> None:
+        """Goes on behind the turns of an earlier hunt."""
+        for _ in range(turns):
+            self.chosen()
+
+    def again(self, visit: Visit, oracle: Oracle, reference: Reference) -> list[Finding]:
+        """Sweeps a visit of an earlier hunt, as far as this scenario has it."""
+        if visit.event not in self.events:
             return []
-        return self.swept(visit, scenario, Options(per_place=PER_PLACE), oracle, reference)
+        first, last = self.room(script_of(self.document, visit.event))
+        visit = dataclasses.replace(visit, first=max(first, visit.first), last=min(last, visit.last))
+        scenario = self.moved(visit) if visit.first < visit.last else None
+        return self.swept(visit, scenario, Options(), oracle, reference) if scenario else []
 
     def drawn(self, random_: random.Random) -> Visit | None:
         if not self.events:
@@ -217,7 +225,9 @@ class Races:
         told = [f"{' and '.join(places)}" + (f"; {used}" if used else ""), *filter(None, (ends, parting))]
         event = sweep.scenario.moved[-1].event
         assert isinstance(event, InputByte)
-        command = sweep_command(event, grouping.spans(one.failing)[0], self.program(event.node).path)
+        span = about(grouping.spans(one.failing)[0])
+        command = sweep_command(event, span, self.program(event.node).path)
+        self.failing.append(Visit(dataclasses.replace(event, is_alone=False), *span, frozenset()))
         result = Finding((RACE, failure.class_, *places), failure, places=tuple(told), command=command)
         for cell in one.failing:
             result.note(NAME, Failure(failure.class_, failure.node, sweep.results.failures[cell]))
@@ -240,22 +250,9 @@ class Races:
         return Scene(kept.applied(self.document), self.until, trial)
 
 
-def in_rounds(visits: Sequence[Visit]) -> list[Visit]:
-    """Visits in rounds of one of each code, rare code first; of those of one code such that lie far apart."""
-    by_code: dict[frozenset[int], list[Visit]] = {}
-    for visit in visits:
-        by_code.setdefault(visit.addresses, []).append(visit)
-    keyed = [
-        (round_, len(group), visit.first, visit)
-        for group in by_code.values()
-        for round_, visit in enumerate(group[i] for i in spread(len(group)))
-    ]
-    return [visit for *_, visit in sorted(keyed, key=lambda it: it[:3])]
-
-
 def sweep_command(event: InputByte, span: tuple[int, int], elf: str) -> str:
-    """The words of a sweep about a stretch that fails."""
-    words = ["--input", f"{event.node}:{event.index}={max(1, span[0] - BEFORE)}..{span[1] + BEHIND}"]
+    """The words of a sweep of a span."""
+    words = ["--input", f"{event.node}:{event.index}={span[0]}..{span[1]}"]
     return shlex.join([*words, *["--alone"] * event.is_alone, "-e", elf])
 
 
@@ -264,15 +261,3 @@ def without_byte(document: Document, script: Script) -> Mapping[str, object]:
     kept = script.bytes_[: script.index].hex()
     inputs = [{**old, "hex": kept} if old["node"] == script.node else old for old in document["input"]]
     return {**document, "input": inputs}
-
-
-def stretches(event: InputByte, cycles: Sequence[tuple[int, int]]) -> Iterator[Visit]:
-    """Executions that lie near to each other, as visits."""
-    begun = 0
-    for place in range(1, len(cycles) + 1):
-        is_long = place < len(cycles) and cycles[place][0] - cycles[begun][0] > LONGEST
-        if place == len(cycles) or is_long or cycles[place][0] - cycles[place - 1][0] > NEAR:
-            part = cycles[begun:place]
-            addresses = frozenset(address for _, address in part)
-            yield Visit(event, max(1, part[0][0] - BEFORE), part[-1][0] + BEHIND, addresses)
-            begun = place

@@ -1,8 +1,9 @@
 """Makes a failing scenario as small as it still fails in the same way: fewer changes, shorter cuts, fewer nodes, links
-and inputs, a shorter run. The scenario without the changes must be right each time."""
+and inputs, a shorter run. The scenario without the changes must be right each time, which shows that the rest works.
+What that run does not show stays as it is: nodes that send in the failing run alone, and the time of the changes."""
 import dataclasses
 import itertools
-from collections.abc import Callable, Iterator, Sequence
+from collections.abc import Callable, Container, Iterator, Sequence
 from typing import TypeVar
 
 from avrora_tools.hunting.changes import (
@@ -20,6 +21,7 @@ from avrora_tools.hunting.changes import (
     without_node,
 )
 from avrora_tools.hunting.oracles import Failure, Oracle, Reference
+from avrora_tools.hunting.said import last_sends
 from avrora_tools.hunting.trials import Runner
 
 Thing = TypeVar("Thing")
@@ -59,6 +61,7 @@ class Smaller:
         self.runner, self.oracle_of, self.may_renumber, self.is_over = runner, oracle_of, may_renumber, is_over
         self.left = MOST_RUNS
         self.right: dict[str, Reference | None] = {}  # by scenario; none where it is wrong without any change
+        self.fresh_senders: dict[int, frozenset[int]] = {}  # nodes that send in the failing run alone, by scenes
 
     def failure(self, scene: Scene) -> Failure | None:
         return self.failures([scene])[0]
@@ -73,6 +76,10 @@ class Smaller:
         for (name, scene), output in zip(unknown.items(), outputs):
             self.right[name] = self.reference(scene, output)
         failing = outputs[len(unknown) :]
+        for scene, output in zip(scenes, failing):
+            right = self.right[key(scene)]
+            senders = frozenset(last_sends(output))
+            self.fresh_senders[identity(scene)] = senders.difference(right.last_sends if right else ())
         return [self.judged(scene, self.right[key(scene)], output) for scene, output in zip(scenes, failing)]
 
     def made_here(self, scene: Scene) -> Failure | None:
@@ -94,10 +101,21 @@ class Smaller:
     def smaller(self, scene: Scene, failure: Failure) -> tuple[Scene, Failure]:
         """The smallest that was found, and how it fails."""
         whole = failure
-        steps = (fewer_changes, shorter_cuts, shorter, self.fewer_nodes, fewer_links, fewer_bytes, shorter)
+        answer_time = max(0, scene.until - last_arrival(scene.document))
+
+        def shorter(scene: Scene) -> Iterator[Scene]:
+            return earlier_ends(scene, answer_time)
+
+        steps = (fewer_changes, shorter_cuts, shorter, self.fewer_nodes, self.fewer_links, fewer_bytes, shorter)
         for step in (*steps, fewer_changes):
             scene, failure = self.stepped(scene, failure, whole, step)
         return scene, failure
+
+    def only_failing(self, scene: Scene) -> frozenset[int]:
+        """The nodes that send in the failing run alone."""
+        if identity(scene) not in self.fresh_senders:
+            self.failures([scene])
+        return self.fresh_senders[identity(scene)]
 
     def stepped(
         self, scene: Scene, failure: Failure, whole: Failure, step: Callable[[Scene], Iterator[Scene]]
@@ -107,29 +125,44 @@ class Smaller:
         goes_on = True
         while goes_on:
             goes_on = False
-            waiting = iter([it for it in step(scene) if hash(repr((it.document, it.trial.changes))) not in tried])
+            waiting = iter([it for it in step(scene) if identity(it) not in tried])
             while others := list(itertools.islice(waiting, AT_A_TIME)):
                 if self.left <= 0 or self.is_over():
                     return scene, failure
-                tried.update(hash(repr((it.document, it.trial.changes))) for it in others)
-                alike = [(it, found) for it, found in zip(others, self.failures(others)) if found and found.is_alike(whole)]
+                tried.update(map(identity, others))
+                failures = zip(others, self.failures(others))
+                alike = [(it, found) for it, found in failures if found and found.is_alike(whole)]
                 if alike:
                     (scene, failure), goes_on = alike[0], True
                     break
         return scene, failure
 
     def fewer_nodes(self, scene: Scene) -> Iterator[Scene]:
+        needed = self.only_failing(scene)
         if not self.may_renumber:
-            yield from fewer_with_part(scene)
+            yield from fewer_with_part(scene, needed)
             return
-        count = len(scene.document["node"])
-        for gone in chunks(range(count)):
+        for gone in chunks([node for node in range(len(scene.document["node"])) if node not in needed]):
             document, changes = scene.document, scene.trial.changes
             for node in sorted(gone, reverse=True):
                 document = without_node(document, node)
                 changes = tuple(it for it in (change_without_node(it, node) for it in changes) if it is not None)
             if changes:
                 yield dataclasses.replace(scene, document=document, trial=scene.trial.with_changes(changes))
+
+    def fewer_links(self, scene: Scene) -> Iterator[Scene]:
+        senders = self.only_failing(scene)
+        changed = {(it.sender, it.hearer) for it in scene.trial.changes if not isinstance(it, Input)}
+        links = [ends_of(link) for link in scene.document.get("link", [])]
+        spare = [link for link in links if link not in changed and link[0] not in senders]
+        if len(spare) == 1:
+            yield dataclasses.replace(scene, document=without_links(scene.document, spare))
+        for gone in chunks(spare):
+            yield dataclasses.replace(scene, document=without_links(scene.document, gone))
+
+
+def identity(scene: Scene) -> int:
+    return hash(repr((scene.document, scene.until, scene.trial.changes)))
 
 
 def key(scene: Scene) -> str:
@@ -146,12 +179,12 @@ def chunks(things: Sequence[Thing]) -> Iterator[Sequence[Thing]]:
         size //= 2
 
 
-def fewer_with_part(scene: Scene) -> Iterator[Scene]:
-    """Without the links and the input of a node, which stays and has its number."""
+def fewer_with_part(scene: Scene, needed: Container[int]) -> Iterator[Scene]:
+    """Without the links and the input of a node that is not needed, which stays and has its number."""
     busy = {it.node for it in inputs_of(scene.document)}
     for link in scene.document.get("link", []):
         busy.update(ends_of(link))
-    for node in sorted(busy, reverse=True):
+    for node in sorted((it for it in busy if it not in needed), reverse=True):
         kept = [it for it in scene.trial.changes if node not in nodes_of(it)]
         if kept:
             document = alone_node(scene.document, node)
@@ -186,16 +219,6 @@ def shorter_cuts(scene: Scene) -> Iterator[Scene]:
             yield dataclasses.replace(scene, trial=scene.trial.with_changes(changes))
 
 
-def fewer_links(scene: Scene) -> Iterator[Scene]:
-    links = [ends_of(link) for link in scene.document.get("link", [])]
-    needed = {(it.sender, it.hearer) for it in scene.trial.changes if not isinstance(it, Input)}
-    spare = [link for link in links if link not in needed]
-    if len(spare) == 1:
-        yield dataclasses.replace(scene, document=without_links(scene.document, spare))
-    for gone in chunks(spare):
-        yield dataclasses.replace(scene, document=without_links(scene.document, gone))
-
-
 def fewer_bytes(scene: Scene) -> Iterator[Scene]:
     """Without the last byte that arrives at a node."""
     changed = {change.node for change in scene.trial.changes if isinstance(change, Input)}
@@ -205,11 +228,25 @@ def fewer_bytes(scene: Scene) -> Iterator[Scene]:
             yield dataclasses.replace(scene, document=document)
 
 
-def shorter(scene: Scene) -> Iterator[Scene]:
-    """A run that ends earlier, with its deadline as far before its end."""
-    cycles = int(scene.document["cycles"])
-    behind = cycles - scene.until
+def earlier_ends(scene: Scene, answer_time: int) -> Iterator[Scene]:
+    """Runs that end earlier, with their deadline as far before their end. By the deadline all changes are over, so what
+    is only late does not become lost; and what they change has come, and been answered, in the right run."""
+    changed = [it for it in scene.trial.changes if isinstance(it, Input)]
+    over = [last_byte(it) for it in changed] + [it.end for it in scene.trial.cuts() if not it.is_for_good()]
+    unmoved = [it for it in inputs_of(scene.document) if it.node in {change.node for change in changed}]
+    least = max([LEAST_CYCLES, *over, *(last_byte(it) + answer_time for it in unmoved)])
+    behind = int(scene.document["cycles"]) - scene.until
     for share in itertools.islice((0.4, 0.6, 0.8, 0.9), HALVINGS):
         until = int(scene.until * share)
-        if until > LEAST_CYCLES:
+        if until > least:
             yield dataclasses.replace(scene, document={**scene.document, "cycles": until + behind}, until=until)
+
+
+def last_byte(it: Input) -> int:
+    """The cycle of an input's last byte."""
+    return it.at + it.every * (len(it.hex) // 2 - 1)
+
+
+def last_arrival(document: Document) -> int:
+    """The cycle of the last byte that arrives at a node."""
+    return max(map(last_byte, inputs_of(document)), default=0)

@@ -25,9 +25,7 @@ def print_hunt(hunt: Hunt, corpus: Corpus, scenario: str, check: Sequence[str]) 
     sweep checks as the hunt does."""
     print_tried(hunt)
     for number, finding in enumerate(hunt.findings, 1):
-        if finding.scene:
-            finding.path = corpus.found(number)
-            write_scene(finding.path, finding.scene, finding, hunt.seed, os.path.dirname(scenario))
+        write_finding(corpus.found(number), finding, hunt.seed, os.path.dirname(scenario))
         print_finding(hunt, number, finding, scenario, check)
     print(f"not covered: {'; '.join(not_covered(hunt))}", flush=True)
 
@@ -126,13 +124,21 @@ def right_name(name: str) -> str:
     return f"{stem}-right{ending}"
 
 
+def write_finding(path: str, finding: Finding, seed: int, folder: str) -> None:
+    """Writes the scenario of a finding, where one can say it; `folder` has the images."""
+    if finding.scene:
+        finding.path = path
+        write_scene(path, finding.scene, finding, seed, folder)
+
+
 def write_scene(path: str, scene: Scene, finding: Finding, seed: int, folder: str) -> None:
     """Writes the failing scenario, and the right one beside it; images are named from where they are."""
     changes = "".join(f"# - {change}\n" for change in scene.trial.changes)
     right_one = os.path.basename(right_name(path))
     drawn = finding.first or scene.trial
     found = f"# Drawn by seed {seed} of `hunt`, {drawn.kind}: {drawn.what}.\n"
-    note = f"# {files.printable(finding.failure.text)}.\n{found}# What is otherwise than in {right_one}:\n{changes}"
+    due = f"# Judged by what {right_one} writes before cycle {scene.until}. What is otherwise than there:\n"
+    note = f"# {files.printable(finding.failure.text)}.\n{found}{due}{changes}"
     place = os.path.dirname(path)
     files.write_whole(path, note + scenario_text(with_images(scene.failing(), folder, place)))
     right = "# The scenario beside it, in which nothing is varied and all is right.\n"
