@@ -1,10 +1,13 @@
-"""What a hunt found and how far it came, in a folder: a later hunt tries first what failed, and goes on behind it."""
+"""What a hunt found and how far it came, in a folder: a later hunt tries first what failed, and goes on behind it.
+
+What a stranger's corpus says failed is tried too. How far it says that it came counts for nothing, as no round would be
+made of those that fail; a seal tells whose it is."""
 import json
 import os
 import re
 from typing import Any
 
-from avrora_tools import files
+from avrora_tools import files, seals
 from avrora_tools.errors import BadInput
 from avrora_tools.hunting.changes import Trial, record_of, trial_of
 from avrora_tools.writing import Folder
@@ -13,6 +16,11 @@ STATE = "hunt.json"
 FOUND = re.compile(r"(?:found-[0-9]+(?:-right)?\.toml|race-[0-9]+\.toml(?:\.state|\.moves)?)")
 VERSION = 1
 MOST_TRIALS = 1_000
+
+
+def seal_of(seed: int, rounds: int) -> str:
+    """What nobody but this user writes beside how far a hunt came."""
+    return seals.seal(seals.text_of(("rounds of a hunt", seed, rounds))).hex()
 
 
 class Corpus:
@@ -32,9 +40,11 @@ class Corpus:
             found: Any = json.loads(files.read_named_text(path))
             if found["version"] != VERSION:
                 raise BadInput(f"{files.shown(path)}: of another version of this tool")
-            self.seed, self.rounds = int(found["seed"]), int(found["rounds"])
+            seed, rounds = int(found["seed"]), int(found["rounds"])
+            if found.get("seal") == seal_of(seed, rounds):
+                self.seed, self.rounds = seed, rounds
             self.failed = [trial_of(record) for record in found["failed"][:MOST_TRIALS]]
-        except (ValueError, KeyError, TypeError, OverflowError, RecursionError) as fault:
+        except (ValueError, KeyError, TypeError, AttributeError, OverflowError, RecursionError) as fault:
             raise BadInput(f"{files.shown(path)}: no corpus of a hunt: {type(fault).__name__}") from None
 
     def rounds_of(self, seed: int) -> int:
@@ -47,6 +57,7 @@ class Corpus:
             "version": VERSION,
             "seed": seed,
             "rounds": rounds,
+            "seal": seal_of(seed, rounds),
             "failed": [record_of(trial) for trial in list(known.values())[:MOST_TRIALS]],
         }
         files.write_whole(os.path.join(self.folder, STATE), json.dumps(record, indent=1) + "\n")
