@@ -104,7 +104,7 @@ def names_of(repo, where, places):
 
 
 def others_of(where, rest, others):
-    """What is wrong with the files that match and are no places: `rest` are those that match and stand under no places."""
+    """What is wrong with the files that match and are not places: `rest` are those that match and stand under no places."""
     yield from (f"{where}: {it} is a wildcard, and hides each file that comes there" for it in others if WILD.search(it))
     if len(others) > MOST_OTHERS:
         yield f"{where}: of {len(others)} files that match nothing is to be changed: its patterns match too much"

@@ -129,7 +129,7 @@ find_why() {
         0[xX]*) why='write a number in decimal digits alone' ;;
         [+-]*) why='a number takes no sign' ;;
         *[!0-9]* | '')
-            why='this is no number'
+            why='this is not a number'
             [[ $digits == *[!0-9]* || -z $digits ]] || why="write a number in digits alone: $digits"
             ;;
         *) ((${#word} <= ${#most} && 10#$word <= most && 10#$word >= least)) || why="this must be a number from $least to $most, of at most ${#most} digits" ;;
@@ -278,7 +278,7 @@ launch() {
         [[ $folder == /* ]] || folder=./$folder
         if ! cd -- "$folder" 2>/dev/null; then
             echo "avrora: cannot read $2" >&2
-            [[ ! -t 2 ]] || echo '(it is not there, it is no folder, or you may not enter it)' >&2
+            [[ ! -t 2 ]] || echo '(it is not there, it is not a folder, or you may not enter it)' >&2
             exit "$CANNOT_READ"
         fi
         shift 2

@@ -1,7 +1,7 @@
 """How long the sentences of a document are, and which are too long.
 
 A sentence is counted as a reader meets it: a piece of code in backquotes is one word, and a link counts by its text. Blocks of
-code, tables, headings and pictures are no sentences. A sentence ends with the paragraph or the item of a list that it stands in.
+code, tables, headings and pictures are not sentences. A sentence ends with the paragraph or the item of a list that it stands in.
 """
 import re
 from typing import Iterator, NamedTuple

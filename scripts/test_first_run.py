@@ -24,7 +24,7 @@ from proving import crates, room
 
 TOP = Path(__file__).resolve().parent.parent
 
-# Seconds that nothing takes but what hangs: a busy machine is no failure.
+# Seconds that nothing takes but what hangs: a busy machine is not a failure.
 LONG = 600
 
 # The signals that end `./avrora` and all that it started.
@@ -197,7 +197,7 @@ class FirstRun(OfARepository):
         self.assertEqual(err.splitlines().count("avrora: bad command line"), 1)
 
     def test_what_is_wrong_with_a_word_is_told(self):
-        """A word of a bad command line that is no command, no number as FORMATS.md has it, or no name of a file; or one too many or too few."""
+        """A word of a bad command line that is not a command, no number as FORMATS.md has it, or no name of a file; or one too many or too few."""
         most = "this must be a number from 0 to 1099511627776, of at most 13 digits"
         for words, told in (
             ("monitor a 0 7_372_800", "'7_372_800': write a number in digits alone: 7372800"),
@@ -206,8 +206,8 @@ class FirstRun(OfARepository):
             ("monitor a 0 0x10", "'0x10': write a number in decimal digits alone"),
             ("monitor a +1 5", "'+1': a number takes no sign"),
             ("make -1", "'-1': a number takes no sign"),
-            ("node a 1e6", "'1e6': this is no number"),
-            ("node a _", "'_': this is no number"),
+            ("node a 1e6", "'1e6': this is not a number"),
+            ("node a _", "'_': this is not a number"),
             ("monitor a 9 08", "'08': TO is below FROM, which is 9"),
             ("monitor a 0 1099511627777", f"'1099511627777': {most}"),
             ("look a 00000000000001", f"'00000000000001': {most}"),
@@ -218,7 +218,7 @@ class FirstRun(OfARepository):
             ("make 65536", "'65536': this must be a number from 0 to 65535, of at most 5 digits"),
             ("save a 1 -b", "'-b': a file name cannot begin with -; write ./-b"),
             ("check -a", "'-a': a file name cannot begin with -; write ./-a"),
-            ("make \x1b[31m", "$'\\E[31m': this is no number"),
+            ("make \x1b[31m", "$'\\E[31m': this is not a number"),
             ("watch a 0 7_372_800 b", "'7_372_800': write a number in digits alone: 7372800"),
             ("watch a 9 8 b c d", "'8': TO is below FROM, which is 9"),
             ("watch a 8 9 b -c", "'-c': a file name cannot begin with -; write ./-c"),
@@ -349,7 +349,7 @@ class FirstRun(OfARepository):
             self.assertEqual((said.startswith(begins), said.endswith(f"{ends}\n"), said.count("\n")), (True, True, 1), (words, said))
 
     def test_no_folder_on_a_terminal(self):
-        self.assertEqual(self.on_a_terminal("-C", "avrora", "run"), (3, ["avrora: cannot read avrora", "(it is not there, it is no folder, or you may not enter it)"]))
+        self.assertEqual(self.on_a_terminal("-C", "avrora", "run"), (3, ["avrora: cannot read avrora", "(it is not there, it is not a folder, or you may not enter it)"]))
 
     def test_a_program_of_no_release(self):
         """No command uses it; each says what to do, and ends with the same status."""

@@ -408,7 +408,7 @@ def main():
     given = words.parse_args()
     crate = TOP / "crates" / given.crate
     if not (crate / "src").is_dir():
-        words.error(f"{given.crate} is no crate")
+        words.error(f"{given.crate} is not a crate")
     source = crate / "src"
     files = sorted(source.rglob("*.rt"))
     functions = [it for path in files for it in functions_of(path, module_of(path, source))]

@@ -137,7 +137,7 @@ class Repository:
         return [one for one in file.definitions if one.offers(it.name)] if file else []
 
     def is_constructor(self, file: File, name: str) -> bool:
-        """Whether a name in a pattern of a file is no variable: a constructor, or a name of the kit."""
+        """Whether a name in a pattern of a file is not a variable: a constructor, or a name of the kit."""
         if name in file.operators or any(name in it.constructors for it in file.definitions):
             return True
         for it in file.imports.get(name, ()):

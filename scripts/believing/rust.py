@@ -23,7 +23,7 @@ VALUE_OF = "Value of "
 
 
 def without_comments(text: str) -> str:
-    """The text with what is no code blanked out, as long and in as many lines."""
+    """The text with what is not code blanked out, as long and in as many lines."""
     return NO_CODE.sub(lambda it: re.sub(r"[^\n]", " ", it[0]), text)
 
 

@@ -3,7 +3,7 @@ on.
 
 A worker trusts its own disk no further than it must. A trace that lacks its end rows is trouble of the worker. Before
 it answers that a run failed or is refused, and at the end of each batch, it compares all that it was sent with what its
-disk has: where that differs it is sick, and what it found since its last comparison is no answer.
+disk has: where that differs it is sick, and what it found since its last comparison is not an answer.
 """
 import contextlib
 import hashlib

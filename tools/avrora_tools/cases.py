@@ -371,7 +371,7 @@ def read_only(words: list[str], before: Only | None) -> Only:
         elif word in KINDS:
             kinds.add(word)
         else:
-            raise ValueError(f"{word} is no kind of row and no list of nodes")
+            raise ValueError(f"{word} is neither a kind of row nor a list of nodes")
     return Only(frozenset(nodes) or None, frozenset(kinds) or None)
 
 
@@ -466,7 +466,7 @@ def read_text(line: str, number: int, span: Span | None) -> Text | Lines:
         return Text(number, node_of(match[1]), b"", span, expression_of(match[3][1:-1]))
     value: str = ast.literal_eval(match[3])
     if max(value) > "\xff":
-        raise ValueError(f"{max(value)} is no byte; write its bytes as \\x and two digits")
+        raise ValueError(f"{max(value)} is not a byte; write its bytes as \\x and two digits")
     return Text(number, node_of(match[1]), value.encode("latin-1"), span)
 
 

@@ -57,7 +57,7 @@ IMPORT = re.compile(
 
 
 def imported(source: bytes) -> list[str]:
-    """The names of this package that a source imports; some of them are no modules."""
+    """The names of this package that a source imports; some of them are not modules."""
     found = []
     for module, names, modules in IMPORT.findall(source.decode()):
         found += re.findall(r"[\w.]+", modules)

@@ -123,7 +123,7 @@ def natural(text: str) -> int:
 def whole_number(text: str, least: int) -> int:
     """A whole number of at least `least`, whose digits may be grouped by _."""
     if not re.fullmatch("[0-9]+(?:_[0-9]+)*", text) or len(text) > 30:
-        raise argparse.ArgumentTypeError(f"{text} is no whole number")
+        raise argparse.ArgumentTypeError(f"{text} is not a whole number")
     value = int(text)
     if value < least:
         raise argparse.ArgumentTypeError(f"{text} is not at least {least}")
@@ -136,7 +136,7 @@ def node_set(text: str) -> set[int]:
     for part in text.split(","):
         match = re.fullmatch("([0-9]{1,9})(?:-([0-9]{1,9}))?", part)
         if not match:
-            raise argparse.ArgumentTypeError(f"{text} is no list of nodes such as 0,2-4")
+            raise argparse.ArgumentTypeError(f"{text} is not a list of nodes such as 0,2-4")
         first, last = int(match[1]), int(match[2] or match[1])
         if not first <= last < MAX_NODES:
             raise argparse.ArgumentTypeError(f"{part}: nodes are 0 to {MAX_NODES - 1}, the lower first")
@@ -147,7 +147,7 @@ def node_set(text: str) -> set[int]:
 def window(text: str) -> tuple[int, int]:
     match = re.fullmatch(r"([0-9][0-9_]*)\.\.([0-9][0-9_]*)", text)
     if not match or not match[1].rstrip("_") or int(match[1].replace("_", "")) >= int(match[2].replace("_", "")):
-        raise argparse.ArgumentTypeError(f"{text} is no window A..B")
+        raise argparse.ArgumentTypeError(f"{text} is not a window A..B")
     return int(match[1].replace("_", "")), int(match[2].replace("_", ""))
 
 

@@ -21,7 +21,7 @@ LONGEST_INSTRUCTION = 6  # no instruction takes so many cycles
 # What is drawn of a node, each kind with how many numbers an event of it has, of which the first is its cycle.
 FIELDS = {"sent": 2, "heard": 4, "clash": 3, "quiet": 1, "serial": 2, "lines": 3, "asleep": 2, "enter": 2, "stop": 2}
 
-TRACK = "track"  # the kind of what variables are over time, which are no events
+TRACK = "track"  # the kind of what variables are over time, which are not events
 
 # An event that is drawn: its cycle, and what its kind has more.
 Drawn = tuple[Any, ...]

@@ -64,7 +64,7 @@ def entry_places(dwarf: Any) -> frozenset[int]:
                 siblings.add(sibling)
             place += entry.size
     if not siblings <= places:
-        raise ValueError("debugging information refers to what is no entry")
+        raise ValueError("debugging information refers to what is not an entry")
     return frozenset(places)
 
 

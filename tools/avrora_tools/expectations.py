@@ -401,7 +401,7 @@ class GoldenTrace:
                 return []
             self.differ(wanted, [])
         assert self.report
-        while self.next_row() is not None:  # what is no row is refused, wherever it stands
+        while self.next_row() is not None:  # what is not a row is refused, wherever it stands
             pass
         diff = difflib.unified_diff(self.shared + self.wanted, self.shared + self.came, n=CONTEXT, lineterm="")
         self.report.details += list(diff)[3:]

@@ -93,7 +93,7 @@ def members(word: str) -> list[str] | None:
         return None
     found = word[1:-1].split(",")
     if not all(found):
-        raise ValueError(f"{word} is no set such as {{X,Y}}")
+        raise ValueError(f"{word} is not a set such as {{X,Y}}")
     return found
 
 
@@ -129,7 +129,7 @@ class Numbers(NamedTuple):
                 raise ValueError(f"{text} is not {self.digits} upper-case hexadecimal digits")
             return int(text, 16)
         if not re.fullmatch(NUMBER, text):
-            raise ValueError(f"{text} is no number")
+            raise ValueError(f"{text} is not a number")
         return whole(text)
 
     def span(self, word: str) -> Span:

@@ -34,7 +34,7 @@ def readable(name: str) -> Iterator[None]:
     tell of the file."""
     try:
         yield
-    except (OSError, EOFError, zlib.error, ValueError) as fault:  # ValueError: a name with NUL, or one that is no text
+    except (OSError, EOFError, zlib.error, ValueError) as fault:  # ValueError: a name with NUL, or one that is not a text
         raised = CannotWork if getattr(fault, "errno", None) in NOT_OF_THE_FILE else BadInput
         raise raised(f"cannot read {shown(name)}: {getattr(fault, 'strerror', None) or fault}") from None
 
@@ -123,7 +123,7 @@ def at_most(file: BinaryIO, name: str, most: int) -> bytes:
 
 
 def read_text(name: str) -> str:
-    """The text of the small file `name` in UTF-8. Raises BadInput where it cannot be read or is no text."""
+    """The text of the small file `name` in UTF-8. Raises BadInput where it cannot be read or is not text."""
     return in_utf8(read_bytes(name), name)
 
 

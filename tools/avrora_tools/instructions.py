@@ -211,7 +211,7 @@ class Encoding:
         return f"{self.mnemonic} {re.sub('[A-Za-z@]', self.guard(operand), self.operands)}".rstrip()
 
     def guard(self, operand: Callable[[re.Match[str]], str]) -> Callable[[re.Match[str]], str]:
-        """Leaves X, Y and Z, which are no fields, as they stand."""
+        """Leaves X, Y and Z, which are not fields, as they stand."""
         return lambda match: match[0] if match[0] in "XYZ" else operand(match)
 
     def words(self) -> list[str]:

@@ -122,7 +122,7 @@ class LocalPool:
         return [Done(worker, ticket, message["answers"], message["sick"])]
 
     def died(self, worker: LocalWorker, reason: str | None) -> list[Event]:
-        """What follows from a worker that is no more: another one in its place."""
+        """What follows from a worker that has gone: another one in its place."""
         status = self.end(worker)
         reason = reason or f"the worker ended with status {status}"
         if not worker.is_proved and worker.starts >= STARTS:

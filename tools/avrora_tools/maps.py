@@ -107,7 +107,7 @@ def places_of(text: str, name: str, count: int) -> list[Point]:
             raise BadInput(f"{name}: a place such as {node} = [0.25, 1.0] is missing: each node needs one, from 0 to {count - 1}")
         found.append((float(place[0]), float(place[1])))
     if document:
-        raise BadInput(f"{name}: {next(iter(document))!r} is no node: there are {count}")
+        raise BadInput(f"{name}: {next(iter(document))!r} is not a node: there are {count}")
     return found
 
 

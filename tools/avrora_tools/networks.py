@@ -43,13 +43,13 @@ def pairs_of(shape: str, count: int, seed: int = 0) -> list[Pair]:
     elif name == "full":
         found = [(low, high) for high in range(count) for low in range(high)]
     else:
-        raise BadInput(f"{shape} is no shape: line, ring, grid:WIDTH, torus:WIDTH, star, full, geo:RANGE")
+        raise BadInput(f"{shape} is not a shape: line, ring, grid:WIDTH, torus:WIDTH, star, full, geo:RANGE")
     return sorted(set(found))
 
 
 def whole(shape: str, text: str) -> int:
     if not re.fullmatch("[1-9][0-9]{0,8}", text):
-        raise BadInput(f"{shape}: {text or 'nothing'} is no whole number of at least 1")
+        raise BadInput(f"{shape}: {text or 'nothing'} is not a whole number of at least 1")
     return int(text)
 
 
@@ -59,14 +59,14 @@ def positive(shape: str, text: str) -> float:
     except ValueError:
         value = 0.0
     if not 0 < value < math.inf:
-        raise BadInput(f"{shape}: {text or 'nothing'} is no distance above 0")
+        raise BadInput(f"{shape}: {text or 'nothing'} is not a distance above 0")
     return value
 
 
 def grid(width: int, count: int, closed: bool) -> list[Pair]:
     """Neighbours in rows of `width` nodes; a torus is closed at its edges, and its last row must be full."""
     if closed and count % width:
-        raise BadInput(f"torus:{width}: {count} nodes are no whole rows")
+        raise BadInput(f"torus:{width}: {count} nodes are not whole rows")
     found: list[Pair] = []
     for node in range(count):
         row, column = divmod(node, width)
@@ -152,7 +152,7 @@ def links_of(
     """The tables of the links of a shape, both ways."""
     draw = random.Random(f"{seed} latencies")
     if latencies and latencies[0] > latencies[1]:
-        raise BadInput(f"{latencies[0]} to {latencies[1]} is no range of latencies: the lower one comes first")
+        raise BadInput(f"{latencies[0]} to {latencies[1]} is not a range of latencies: the lower one comes first")
     left = dict(spans)
     found: list[Table] = []
     for low, high in pairs_of(shape, count, seed):

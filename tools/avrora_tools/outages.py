@@ -62,7 +62,7 @@ def cut_links(place: str, network: Table, axes: Sequence[Any], slots: int) -> li
     for number, indices in closed_by.items():
         base = links[number].get(OPEN, [[0, LAST_CYCLE]])
         if not are_spans(base):
-            raise BadInput(f"{place}: a link has an outage and varies in {OPEN}, or its {OPEN} is no list of spans")
+            raise BadInput(f"{place}: a link has an outage and varies in {OPEN}, or its {OPEN} is not a list of spans")
         cuts.append(Cut(slots + len(cuts), tuple((first, end) for first, end in base), tuple(indices)))
         links[number][OPEN] = cuts[-1]
     return cuts

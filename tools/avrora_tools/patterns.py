@@ -112,7 +112,7 @@ class Pattern:
             words = words[:-1]
         elif len(words) < 3:
             raise ValueError(
-                f"`{text}` is no row: a cycle, a node and a kind, or * instead of each; a last * is any rest"
+                f"`{text}` is not a row: a cycle, a node and a kind, or * instead of each; a last * is any rest"
             )
         cycle, node, kind, *rest = (words + [ANY] * 3)[:3] + words[3:]
         self.is_relative = cycle[0] == "+"

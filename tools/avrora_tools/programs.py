@@ -20,7 +20,7 @@ TIMER1_OVF TIMER0_COMP TIMER0_OVF SPI_STC USART0_RX USART0_UDRE USART0_TX ADC EE
 TIMER3_CAPT TIMER3_COMPA TIMER3_COMPB TIMER3_COMPC TIMER3_OVF USART1_RX USART1_UDRE USART1_TX TWI SPM_READY""".split()
 VECTORS = {2 * number: name for number, name in enumerate(INTERRUPTS, 1)}
 
-# Labels that the linker and the C library set at the ends of things, which are no functions.
+# Labels that the linker and the C library set at the ends of things, which are not functions.
 NO_FUNCTION = re.compile(r"\..*|L0\x01.*|_etext|.*_(?:start|end)")
 
 EXECUTABLE = 4  # the flag of a section with code

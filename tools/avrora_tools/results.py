@@ -222,7 +222,7 @@ class Store:
                 yield list(row[: len(NAMES)]), Names(*row[len(NAMES) : -2])
 
     def arrange(self, signature: str, wanted: Iterable[Run]) -> Moved:
-        """Puts the results of runs aside that are no more in the campaign, takes those back that are in it again, and
+        """Puts the results of runs aside that are no longer in the campaign, takes those back that are in it again, and
         numbers all as they stand there now. The signature is that of the runs: where it is that of before all stand as
         they stood."""
         if self.is_empty or self.about("signature") == signature:
@@ -256,7 +256,7 @@ class Store:
         return int(self.database.execute("SELECT count(*) FROM aside").fetchone()[0])
 
     def drop_aside(self) -> int:
-        """Drops the results of runs that are no more in the campaign; how many."""
+        """Drops the results of runs that are no longer in the campaign; how many."""
         names = [str(name) for (name,) in self.database.execute("SELECT name FROM aside")]
         for name in names:
             self.remove_files(name)
@@ -348,7 +348,7 @@ class Store:
         if answer["trace"]:
             trace = f"runs/{self.write_file(f'{file_name(name)}.trace.gz', answer['trace'])}"
         if answer["outcome"] != runs.PASSED:
-            with contextlib.suppress(BadInput):  # what is no scenario
+            with contextlib.suppress(BadInput):  # what is not a scenario
                 self.write_file(f"{file_name(name)}.toml", run.scenario())
                 if images := run.images():
                     self.write_images(f"{file_name(name)}.images", images)

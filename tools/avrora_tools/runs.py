@@ -50,7 +50,7 @@ PROOF_TRACE = (
     + "".join(f"{cycle} 0 instr 0001 rjmp .-2\n" for cycle in range(1, 12, 2))
     + "40 0 end 21 running\n"
 )
-PROOF_SECONDS = 300  # a busy machine is no sick one
+PROOF_SECONDS = 300  # a busy machine is not a sick one
 
 # A worker gives back what it has not begun of a batch that took so long: others may have nothing to do.
 SECONDS_A_BATCH = 10.0

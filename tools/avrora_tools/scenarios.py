@@ -157,7 +157,7 @@ class Check:
         self.found.append(Fault(cause, place, line, text))
 
     def tables(self, name: str) -> list[tuple[int, dict[str, Any]]]:
-        """The tables of an array, each with its number; none where it is no array of tables."""
+        """The tables of an array, each with its number; none where it is not an array of tables."""
         value = self.document.get(name)
         return [(i, t) for i, t in enumerate(value) if isinstance(t, dict)] if isinstance(value, list) else []
 
@@ -209,17 +209,17 @@ class Check:
                 self.tell("WrongKind", "no array of tables", key=name)
 
     def number(self, table: dict[str, Any], key: str, allowed: range, name: str = "", number: int = 0) -> None:
-        """Tells a value that is no whole number, or none of those `allowed`."""
+        """Tells a value that is not a whole number, or none of those `allowed`."""
         value = table.get(key, allowed.start)
         if type(value) is not int:
-            self.tell("WrongKind", f"{value!r} is no whole number", name, number, key)
+            self.tell("WrongKind", f"{value!r} is not a whole number", name, number, key)
         elif value not in allowed:
             self.tell("OutOfRange", f"{value:,} is not {allowed.start:,} to {allowed.stop - 1:,}", name, number, key)
 
     def window(self) -> None:
         value = self.document.get("window", [0, 0])
         if not is_pair(value):
-            self.tell("WrongKind", f"{value!r} is no array of two whole numbers", key="window")
+            self.tell("WrongKind", f"{value!r} is not an array of two whole numbers", key="window")
             return
         cycles = self.document.get("cycles")
         if not 0 <= value[0] <= value[1]:
@@ -232,7 +232,7 @@ class Check:
     def image(self, number: int, table: dict[str, Any]) -> None:
         value = table.get("image", "x")
         if not isinstance(value, str):
-            self.tell("WrongKind", f"{value!r} is no text", "node", number, "image")
+            self.tell("WrongKind", f"{value!r} is not text", "node", number, "image")
         elif not 1 <= len(value.encode()) <= 255:
             self.tell("OutOfRange", f"a name of {len(value.encode())} bytes is not 1 to 255", "node", number, "image")
 
@@ -241,7 +241,7 @@ class Check:
         if type(value) is int and value not in range(self.count):
             self.tell("OutOfRange", f"there is no node {value}: the scenario has {self.count}", name, number, key)
         elif key in table and type(value) is not int:
-            self.tell("WrongKind", f"{value!r} is no whole number", name, number, key)
+            self.tell("WrongKind", f"{value!r} is not a whole number", name, number, key)
 
     def link(self, number: int, table: dict[str, Any]) -> None:
         self.node_number(table, "from", "link", number)
@@ -272,7 +272,7 @@ class Check:
         self.number(table, "every", range(1, 65_536), "input", number)
         value = table.get("hex", "")
         if not isinstance(value, str):
-            self.tell("WrongKind", f"{value!r} is no text", "input", number, "hex")
+            self.tell("WrongKind", f"{value!r} is not text", "input", number, "hex")
         elif not re.fullmatch("([0-9A-Fa-f]{2})*", value):
             self.tell("OutOfRange", "no even number of hexadecimal digits", "input", number, "hex")
 

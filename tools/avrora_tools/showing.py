@@ -27,7 +27,7 @@ def shown(name: str) -> str:
 
 
 def printable(text: str) -> str:
-    """A text on one line, for a terminal or a log. What is no letter, mark, digit, sign or plain space is told by its
+    """A text on one line, for a terminal or a log. What is not a letter, mark, digit, sign or plain space is told by its
     number: controls, line breaks, marks of direction, characters that do not show, bytes that are no UTF-8
     (`\\xff`); and so is the second sign of what begins a command to who reads the log, such as `##[`."""
     if not text.isprintable():
@@ -44,7 +44,7 @@ def decoded(text: str) -> str:
     """The name of a file is text in UTF-8, whatever encoding the environment names."""
     try:
         return os.fsencode(text).decode("utf-8", "surrogateescape")
-    except UnicodeEncodeError:  # it is no name, or has halves of characters
+    except UnicodeEncodeError:  # it is not a name, or has halves of characters
         return text
 
 
@@ -101,5 +101,5 @@ def script_data(value: object) -> str:
 
 
 def vcd_word(text: str) -> str:
-    """A text as one word of a value change dump, which is no keyword and no time."""
+    """A text as one word of a value change dump, which is neither a keyword nor a time."""
     return re.sub("[^!-~]|^[$#]", "_", text) or "_"

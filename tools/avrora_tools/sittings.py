@@ -181,7 +181,7 @@ class Sitting:
             return message
         for name, path in self.campaign.shipped_from.items():
             message = message.replace(name, path)
-        with contextlib.suppress(BadInput):  # what is no scenario
+        with contextlib.suppress(BadInput):  # what is not a scenario
             found = scenarios.faults(run.scenario())
             if found:
                 return f"{message}\nruns/{campaigns.file_name(run.name)}.toml: {scenarios.described(found[0])}"
@@ -401,11 +401,11 @@ def warn_of_results(sitting: Sitting) -> None:
     store, progress, moved = sitting.store, sitting.progress, sitting.moved
     if moved.aside:
         progress.say(
-            f"{moved.aside:,} results are of runs that are no more in the campaign: they are put aside in the results, "
+            f"{moved.aside:,} results are of runs that are no longer in the campaign: they are put aside in the results, "
             "and come back where the runs do; --drop drops them"
         )
     if moved.back:
         progress.say(f"{moved.back:,} results that were aside are back")
     if sitting.words.drops:
         dropped = store.drop_aside()
-        terminal.say(f"{dropped:,} results of runs that are no more in the campaign are dropped")
+        terminal.say(f"{dropped:,} results of runs that are no longer in the campaign are dropped")

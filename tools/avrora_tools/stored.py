@@ -54,7 +54,7 @@ SUMS = "sum BLOB NOT NULL, seal BLOB NOT NULL"
 # A sitting is one call of the campaign: `identity` is a hash of all that decides the outcomes of all runs, `program`
 # and `checker` are those of the simulator and of the code that checks. A run belongs to the sitting by which it has its
 # result, or in which that was found to be the same. `second` is the host that came to the same, `tried` has those that
-# came to something else or to nothing, and to what. In `aside` are results of runs that are no more in the campaign.
+# came to something else or to nothing, and to what. In `aside` are results of runs that are no longer in the campaign.
 SCHEMA = f"""
 CREATE TABLE about (key TEXT PRIMARY KEY, value TEXT NOT NULL) WITHOUT ROWID;
 CREATE TABLE sitting (

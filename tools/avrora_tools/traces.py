@@ -363,7 +363,7 @@ def ascii_of(content: bytes) -> str:
 
 def blocks_of(file: BinaryIO, name: str = "", prints: bool = False) -> Iterator[bytes]:
     """The content of a file as it comes. A line on the terminal says how far it is read, where that takes long;
-    `prints` is for tools that print as they read: they show it only where their output is no terminal."""
+    `prints` is for tools that print as they read: they show it only where their output is not a terminal."""
     progress = terminal.Progress(prints)
     size = 0
     if progress.shows and name and name != files.STANDARD_STREAM and not name.endswith(".gz"):

@@ -87,5 +87,5 @@ class Track:
 
 
 def finite(number: Number) -> Number | None:
-    """What JSON can have of a number: no infinity, and nothing that is no number."""
+    """What JSON can have of a number: no infinity, and nothing that is not a number."""
     return number if abs(number) < float("inf") else None

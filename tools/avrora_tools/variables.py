@@ -161,7 +161,7 @@ class Pointer:
 class Array:
     element: Type
     count: int
-    values: int = 1  # that are no arrays and structures
+    values: int = 1  # that are neither arrays nor structures
 
     @property
     def name(self) -> str:
@@ -227,7 +227,7 @@ class Structure:
     name: str
     size: int
     members: tuple[Member, ...]
-    values: int = 1  # that are no arrays and structures
+    values: int = 1  # that are neither arrays nor structures
 
     def shown(self, data: bytes, memory: Memory, depth: int = 0) -> str:
         if depth >= MOST_DEPTH:
@@ -423,7 +423,7 @@ class Unit:
         """The entry that an attribute refers to. Raises ValueError where none begins there."""
         found = entry.get_DIE_from_attribute(name)
         if found.offset not in self.places:
-            raise ValueError("debugging information refers to what is no entry")
+            raise ValueError("debugging information refers to what is not an entry")
         return found
 
     def type_of(self, entry: Any) -> Type:

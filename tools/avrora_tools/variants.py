@@ -311,7 +311,7 @@ def is_hex(value: Any) -> bool:
 
 
 def shipped_image(image: Any, folder: str, ship: Ship) -> Any:
-    """The name of an image in the shipment; what is no name of one stays for the simulator to refuse."""
+    """The name of an image in the shipment; what is not a name of one stays for the simulator to refuse."""
     return ship(os.path.join(folder, image)) if isinstance(image, str) and image else image
 
 

@@ -142,7 +142,7 @@ class Folder:
     def file(self, name: str, binary: bool = False, lasting: bool = True) -> Iterator[IO[Any]]:
         """A file to write to, which becomes `name` only once all is written. A `lasting` one is on the disk then, so
         that the name has all its content also where the machine loses its power. Raises BadInput where a link is there,
-        or what is no file."""
+        or what is not a file."""
         path = self.path_of(plain(name))
         found = self.status(name)
         self.refuse_link(name)
@@ -175,7 +175,7 @@ class Folder:
 
     def lock_file(self, name: str) -> int:
         """The descriptor of a file to lock, which is made where it is not there, and never cut. Raises BadInput where a
-        link is there, or what is no file."""
+        link is there, or what is not a file."""
         with renamed(self.path_of(name)):
             try:
                 flags = os.O_RDWR | os.O_CREAT | os.O_NONBLOCK | NO_LINK
@@ -224,7 +224,7 @@ def below_here(path: str) -> str | None:
 def plain(name: str) -> str:
     """A name of one part. Raises BadInput where it leads to another folder, or to none."""
     if name in ("", ".", "..") or "/" in name or "\0" in name:
-        raise BadInput(f"{printable(name)!r} is no name of a file")
+        raise BadInput(f"{printable(name)!r} is not a name of a file")
     return name
 
 

@@ -27,7 +27,7 @@ Row = namedtuple("Row", "cycle kind word text")
 MOVES = 12  # of a walk
 STANDS = re.compile(r"^cycle ([\d,]+), node (\d+)$", re.M)
 
-# A breakpoint of a loop that executes all the time is no good: walks go to places that a node comes to now and then.
+# A breakpoint of a loop that executes all the time is not a good: walks go to places that a node comes to now and then.
 MOST_VISITS = 4_000
 
 

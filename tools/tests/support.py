@@ -18,7 +18,7 @@ TOOLS = os.path.dirname(TESTS)
 TOP = os.path.dirname(TOOLS)
 DATA = f"{TESTS}/data"
 
-# Seconds that nothing takes but what hangs: a busy machine is no failure.
+# Seconds that nothing takes but what hangs: a busy machine is not a failure.
 LONG = 600
 
 LOOPBACK = "127.0.0.1"

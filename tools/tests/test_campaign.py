@@ -151,7 +151,7 @@ stagger = [0, 30]
         self.assert_refused(f"{run}vary = {{ latncy = [3] }}\n", "the key latncy is unknown; there are byte_time, ")
         self.assert_refused(f'{run}vary = {{ "link.0-1.at" = [3] }}\n', "the key at is unknown; there are from, ")
         self.assert_refused(f'{network}images = "a.hex*3"\nspans = {{ "0:1" = 5 }}\n', "spans is not a table such as")
-        self.assert_refused(network.replace("ring", "wheel") + 'images = "a.hex"\n', "wheel is no shape")
+        self.assert_refused(network.replace("ring", "wheel") + 'images = "a.hex"\n', "wheel is not a shape")
         self.assert_refused('[[run]]\nscenario = "gone.toml"\n', "cannot read")
         self.assert_refused(run, "a.hax: No such file", scenario=SCENARIO.replace("a.hex", "a.hax"))
         self.assert_refused(f'{run}expect = "net.expect"\n', "net.expect, line 1", case="1 0 nonsense *\n")
@@ -191,10 +191,10 @@ class Keys(unittest.TestCase):
     def test_what_makes_no_network(self):
         """Values that are right one by one, and together make none, are refused in words too."""
         for more, sentence in (
-            ({"shape": "wheel"}, "wheel is no shape"),
-            ({"shape": "grid:0"}, "grid:0: 0 is no whole number"),
-            ({"shape": "geo:x"}, "geo:x: x is no distance"),
-            ({"shape": "torus:2"}, "3 nodes are no whole rows"),
+            ({"shape": "wheel"}, "wheel is not a shape"),
+            ({"shape": "grid:0"}, "grid:0: 0 is not a whole number"),
+            ({"shape": "geo:x"}, "geo:x: x is not a distance"),
+            ({"shape": "torus:2"}, "3 nodes are not whole rows"),
             ({"images": ["a.hex*65"]}, "more than 64 nodes"),
             ({"images": ["a.hex*0"]}, "no IMAGE"),
             ({"spans": {"0-9": [[0, 5]]}}, "ring has no link from 0 to 9"),
@@ -283,7 +283,7 @@ def draw(number):
             ("import sys; sys.exit(0)", "cannot be loaded: SystemExit"),
             ("drawn = 1", "has no function draw"),
             ("def draw(number): return 7", r"draw\(20\) ended with TypeError"),
-            ('def draw(number): return "", {"../a.hex": b""}', "which is no plain name"),
+            ('def draw(number): return "", {"../a.hex": b""}', "which is not a plain name"),
         ):
             with self.subTest(text), folder(self.CAMPAIGN) as path:
                 if text:

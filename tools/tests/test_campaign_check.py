@@ -88,7 +88,7 @@ def starts_there(path):
     ],
 )
 def test_check_that_cannot_say(body, sentence):
-    """It is no verdict, and no worker is set aside for it."""
+    """It is not a verdict, and no worker is set aside for it."""
     with folder("timeout = 2\n" + CHECKED.replace("[30, 31]", "[30]")) as path:
         written(path, "own.py", f"def check(run):\n    {body}\n")
         status, _, errors, rows = run_campaign(path, "--run-code", "--jobs", "1")

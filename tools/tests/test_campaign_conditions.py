@@ -76,7 +76,7 @@ def test_a_failure_names_no_file_that_is_gone(folder):
 def test_expect_says_how_a_case_names_a_program(folder):
     (folder / "w.expect").write_text("run watched.toml\nalways 1 ticks < 3\n")
     _, out, _ = run_tool("expect", str(folder / "w.expect"))
-    assert "line 2: `ticks` is no register, and no program is known: `elf FILE` names its ELF file" in out
+    assert "line 2: `ticks` is not a register, and no program is known: `elf FILE` names its ELF file" in out
     text = run_tool("expect", "--help")[1]
     for said in ("  elf FILE", "  always NODE CONDITION", "  never NODE CONDITION", "  reaches NODE CONDITION", "  before 9000: always"):
         assert said in text, text
@@ -150,7 +150,7 @@ def test_the_program_of_nodes_that_are_named_and_of_a_network(folder):
     assert status == 1 and "`ticks < 3` does not hold at node 1" in out
     (folder / "w.expect").write_text(case + "always 0 ticks < 3\n")
     status, _, err = run_tool("campaign", "--jobs", "1", str(folder / "c.campaign"))
-    assert status == 2 and "`ticks` is no register, and no program is known: `elf FILE` names its ELF file" in err
+    assert status == 2 and "`ticks` is not a register, and no program is known: `elf FILE` names its ELF file" in err
 
 
 def test_another_program_makes_results_anew(folder):

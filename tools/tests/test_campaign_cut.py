@@ -123,7 +123,7 @@ class Disks(unittest.TestCase):
         return done.returncode, done.stderr
 
     def test_without_exec(self):
-        """All workers are sick, which is no answer to any run."""
+        """All workers are sick, which is not an answer to any run."""
         with folder(HELD) as path:
             status, errors = self.status_and_errors(path, f"{path}/disk", "noexec", TMPDIR=f"{path}/disk")
             self.assertEqual(status, 3, errors)
@@ -163,7 +163,7 @@ class Kept(unittest.TestCase):
             os.rename(f"{path}/two.rows", f"{path}/one.rows")
             os.rename(f"{path}/spare", f"{path}/two.rows")
             status, _, errors, rows = run_campaign(path)
-            # a row without its cycle is no row of a golden trace
+            # a row without its cycle is not a row of a golden trace
             self.assertEqual((status, rows["net latency=30"]["outcome"]), (3, "broken"), errors)
 
     def test_cases_that_change_places(self):

@@ -162,7 +162,7 @@ def test_another_worker_that_never_comes():
 
 
 def test_two_that_differ_and_nobody_else():
-    """It is no verdict."""
+    """It is not a verdict."""
     found, _ = driven(Answering("ab", {"b": 0}, runs.FAILED), 30)
     assert {outcome for outcome, *_ in found.values()} == {runs.PASSED, runs.BROKEN}
 

@@ -57,7 +57,7 @@ class TheRows(unittest.TestCase):
             status, out, errors, rows = run_campaign(path)
             self.assertEqual((status, list(rows)), (0, ["net latency=30", "net latency=3"]), errors)
             self.assertIn("c: 2 runs, 2 passed\n", out)
-            self.assertIn("3 results are of runs that are no more in the campaign: they are put aside", errors)
+            self.assertIn("3 results are of runs that are no longer in the campaign: they are put aside", errors)
             self.assertFalse(os.path.exists(f"{path}/log"), "a result that is there was run again")
             self.assertEqual(len(os.listdir(f"{path}/c.results/runs")), 3)
             with open(f"{path}/c.toml", "w", encoding="utf-8") as file:
@@ -67,7 +67,7 @@ class TheRows(unittest.TestCase):
             self.assertIn("2 results that were aside are back", errors)
             self.assertFalse(os.path.exists(f"{path}/log"), "a result that is there was run again")
             _, _, errors, _ = run_campaign(path, "--drop")
-            self.assertIn("1 results of runs that are no more in the campaign are dropped", errors)
+            self.assertIn("1 results of runs that are no longer in the campaign are dropped", errors)
             self.assertEqual(sorted(os.listdir(f"{path}/c.results/runs")), ["net,latency=1.toml", "net,latency=20.toml"])
 
     def test_a_trace_that_is_wanted_now(self):

@@ -40,7 +40,7 @@ def ran():
 
 
 def test_a_row_that_was_changed(ran):
-    """By one bit, or by who wants it to say something else: it is no result, and is made again."""
+    """By one bit, or by who wants it to say something else: it is not a result, and is made again."""
     changed(ran, "UPDATE run SET seconds = seconds + 1 WHERE name = 'net latency=30'")
     status, out, errors = report(ran)
     assert status == 3 and "3 runs, 2 passed, 1 without a result" in out, errors

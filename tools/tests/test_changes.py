@@ -140,7 +140,7 @@ def test_where_a_condition_breaks(folder, stores):
         (["-w", "wide", "--from", "9", "--until", "8"], "the run has the cycles 0 to 3,000"),
         (["-w", "wide", "--until", "3001"], "the run has the cycles 0 to 3,000"),
         (["-w", "wide", "-n", "1"], "there is no node 1"),
-        (["--breaks", "wide <"], "is no condition"),
+        (["--breaks", "wide <"], "is not a condition"),
     ],
 )
 def test_bad_words_are_refused_by_name(folder, words, why):

@@ -220,7 +220,7 @@ def test_a_value_that_is_half_written_as_a_span_begins_is_the_old_one():
 
 
 def test_what_changes_in_one_cycle_changes_at_once():
-    """One store turns two bits over: between them is no cycle."""
+    """One store turns two bits over: between them is not a cycle."""
     assert turned("low == next") == [(0, True), (701, False), (901, True)]
     assert turned("low != next", first=750) == [(750, True), (901, False)]
     assert turned("other || count", first=750) == [(750, True)]

@@ -38,7 +38,7 @@ class Console(unittest.TestCase):
         self.assertEqual(self.typed(b"\r\na\r\n\r\nb"), ["", "a", "", "b"])
         self.assertEqual(self.typed(b"a\r\rb\n\rc"), ["a", "", "b", "", "c"])
         self.assertEqual(self.console(trace="7 0 serial 0A\n"), "           7  0 |\n")
-        # what ends a line that silence has ended is no empty line
+        # what ends a line that silence has ended is not an empty line
         self.assertEqual(
             self.console("--idle", "5", trace="1 0 serial 41\n90 1 serial 42\n99 0 serial 0A\n").count("\n"), 2
         )

@@ -94,7 +94,7 @@ def test_more_rows_gone_than_are_looked_through_are_all_told():
     assert node.rest["serial"].unmoved == 1
 
 
-@settings(deadline=None)  # a busy machine is no failure
+@settings(deadline=None)  # a busy machine is not a failure
 @given(strategies.lists(strategies.sampled_from("ABC"), max_size=30), strategies.randoms(use_true_random=False))
 def test_each_row_is_told_once(letters, draw: random.Random):
     """Of each side: the rows that are the same, and those that are gone or new, are all of its rows."""

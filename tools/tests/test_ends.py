@@ -41,7 +41,7 @@ USES = {
     "window": (["--avrora", "@avrora", "@relay.toml", "80_000", "90_000"], 0),
 }
 
-# Another file than these is no input: it is written, or run.
+# Another file than these is not an input: it is written, or run.
 NO_INPUTS = ("@avrora",)
 
 ONES = [

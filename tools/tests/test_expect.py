@@ -272,23 +272,23 @@ class Golden(unittest.TestCase):
 class Refused(unittest.TestCase):
     def test_lines(self):
         for line, why in (
-            ("10 0", "is no row"),
+            ("10 0", "is not a row"),
             ("* * talked *", "no row has the kind talked"),
             ("1.. 0 sent x..", "x is not 2 upper-case"),
             ("count 5: * * sent *", "a count is"),
             ("text 1 two", "text is"),
             ("text 1 5", "text is"),
-            ("text 1 '\u20ac'", "is no byte"),
+            ("text 1 '\u20ac'", "is not a byte"),
             ("text one 'a'", "text is"),
             ("within 1: * * sent *", "within"),
             ("golden", "golden is"),
             ("run", "after run stand 1"),
             ("node a.hex", "after node stand 2"),
-            ("only talked", "talked is no kind"),
+            ("only talked", "talked is not a kind"),
             ("only 64 sent", "nodes are 0 to 63"),
             ("within 0..9: golden x", "within"),
             ("count == 1: +5 0 sent *", "cycles are counted"),
-            ("next", "is no row"),
+            ("next", "is not a row"),
             ("run a\nrun b", "a second source"),
         ):
             with self.subTest(line), scratch("case.expect", f"{line}\n* * sent *\n") as path:
@@ -308,7 +308,7 @@ class Refused(unittest.TestCase):
             ("never * 5..1 sent *", "5..1 has no number in it"),
             ("never * 64 sent *", "nodes are 0 to 63"),
             ("never 05 * sent *", "05 has leading zeros"),
-            ("never {} * sent *", "{} is no set"),
+            ("never {} * sent *", "{} is not a set"),
             ("never * * heard 0 41 *", "heard: 41 is not 00"),
             ("never * * heard 2 41 5", "heard: 5 is not 0"),
             ("never * * heard 1 41 256", "heard: 256 is not 0 to 255"),
@@ -673,7 +673,7 @@ class Command(unittest.TestCase):
                 self.assertEqual(os.listdir(os.path.dirname(case)), ["a.expect"])
 
     def test_a_run_that_goes_on(self):
-        """It is ended where it takes too long, which is no answer of the check."""
+        """It is ended where it takes too long, which is not an answer of the check."""
         for goes_on in ("exec sleep 1000", "sleep 1000", "sleep 1000 & wait"):  # itself, or what it starts
             endless = f"#!/bin/sh\nhead -n 100 {DATA}/relay.trace\n{goes_on}\n"
             with scratch("avrora", endless) as avrora, scratch("a.expect", "run net\nnever * * enter *\n") as case:
@@ -732,7 +732,7 @@ class Command(unittest.TestCase):
             self.assertEqual((status, out.splitlines()[2][:4]), (0, "ok 1"))
 
     def test_a_name_that_would_excuse_a_failure(self):
-        """`not ok 1 - a # TODO` is no failure to who reads TAP."""
+        """`not ok 1 - a # TODO` is not a failure to who reads TAP."""
         for name in ("a # TODO.expect", "a #skip.expect", "a \\# TODO.expect"):
             with scratch(name, "text 4 'yes'\n") as case:
                 status, out, _ = run_tool("expect", "--trace", f"{DATA}/relay.trace", case)

@@ -360,11 +360,11 @@ def test_wrong_words_are_told(folder):
     )
     for text in (
         "the run has 737,280 cycles",
-        "x is no cycle",
+        "x is not a cycle",
         "no word is called jump",
         "one of sent, heard",
-        "7 is no node",
-        "FOO is no interrupt",
+        "7 is not a node",
+        "FOO is not an interrupt",
     ):
         assert text in said, text
 

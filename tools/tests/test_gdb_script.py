@@ -58,7 +58,7 @@ def test_to_the_next_and_the_last_event(folder, rows, command, kind, node, forwa
 @needs_all
 def test_a_wrong_event_moves_nothing(folder):  # noqa: F811
     said = gdb(folder, SCRIPT, "upto rain", "upto", "backto sent of 7", "monitor cycle", at=BEGIN)
-    assert "one of sent, heard" in said and "upto EVENT" in said and "7 is no node" in said
+    assert "one of sent, heard" in said and "upto EVENT" in said and "7 is not a node" in said
     assert stands(said)[-1] == (BEGIN, 0)
 
 

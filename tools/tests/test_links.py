@@ -193,7 +193,7 @@ class Rest(unittest.TestCase):
         self.assertEqual((status, "its byte before is on the air until 263101" in out), (1, True))
 
     def test_without_its_state(self):
-        """It is no reason to accuse a run; without such a sample it is as good as a whole one."""
+        """It is not a reason to accuse a run; without such a sample it is as good as a whole one."""
         with scratch("net.toml", REST_SCENARIO) as scenario:
             status, out, err = run_tool("links", scenario, stdin=REST)
             self.assertEqual((status, out), (2, ""))

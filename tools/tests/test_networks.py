@@ -124,7 +124,7 @@ class Texts(unittest.TestCase):
 
     def test_command_refused(self):
         for words, why in (
-            (["cube", "a"], "cube is no shape"),
+            (["cube", "a"], "cube is not a shape"),
             (["line", "a", "--open", "0-1"], "no FROM-TO"),
             (["line", "a*70"], "more than 64 nodes"),
             (["line", "*3"], "*3 is no IMAGE"),
@@ -179,7 +179,7 @@ class Window(unittest.TestCase):
         )
 
     def test_a_comment_ends_at_a_line_feed_alone(self):
-        """Python has more line ends than TOML: what stands behind one of them in a comment is no statement."""
+        """Python has more line ends than TOML: what stands behind one of them in a comment is not a statement."""
         for mark in "\u2028\u2029\x85":
             text = f"cycles = 100\n# {mark}latency = 5\nlatency = 7 # {mark}[[link]]\n"
             self.assertEqual(
@@ -190,7 +190,7 @@ class Window(unittest.TestCase):
         for first, end in (("5", "5"), ("0", "20001"), ("0", "90001"), ("89000", "90001"), ("7", "6")):
             status, out, err = run_tool("window", "--avrora", "/nowhere", f"{DATA}/relay.toml", first, end)
             self.assertEqual((status, out), (2, ""))
-            self.assertIn("is no window", err)
+            self.assertIn("is not a window", err)
 
     def test_from_a_state(self):
         state = f"avrora state 1\ncycle {1_048_576}\nend\n"

@@ -14,7 +14,7 @@ from avrora_tools import showing
 
 EVERY = [chr(number) for number in range(sys.maxunicode + 1)]
 
-# Categories of what moves a cursor, ends a line, turns a direction, is no character, or does not show.
+# Categories of what moves a cursor, ends a line, turns a direction, is not a character, or does not show.
 HIDDEN = ("Cc", "Cf", "Cs", "Zl", "Zp", "Co", "Cn")
 
 ESCAPE = re.compile(r"\\(x[0-9A-Fa-f]{2}|u[0-9A-F]{4}|U[0-9A-F]{8})")

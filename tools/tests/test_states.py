@@ -169,4 +169,4 @@ class Refused(unittest.TestCase):
             with self.subTest(text):
                 status, _, err = run_tool("inspect", "--dump", text, "-", stdin=state(BUSY))
                 self.assertEqual(status, 2)
-                self.assertIn(f"{text} is no range of data addresses", err)
+                self.assertIn(f"{text} is not a range of data addresses", err)

@@ -31,7 +31,7 @@ FILE is TOML (CAMPAIGNS.md has all of it):
 The outcome of each run is a row of NAME.results/results.sqlite. If a campaign was interrupted, the same words go on
 where it was. A run that came to no answer (its worker died, it took too long) is tried again, `attempts` times in all.
 A run that does not pass is made again on another worker before it is reported.
-Status 0: all runs passed; 1: one failed or was refused; 2: FILE is no campaign; 3: none failed, but one came to no
+Status 0: all runs passed; 1: one failed or was refused; 2: FILE is not a campaign; 3: none failed, but one came to no
 answer, or the campaign cannot go on."""
 
 def place_of(campaign: Campaign, shard: Shard, named: str | None) -> str | tuple[str, str]:
@@ -262,7 +262,7 @@ def shard(text: str) -> Shard:
     """The part I of N, for argparse."""
     match = re.fullmatch("([1-9][0-9]{0,5})/([1-9][0-9]{0,5})", text)
     if not match or int(match[1]) > int(match[2]):
-        raise argparse.ArgumentTypeError(f"{text} is no part I/N, as 1/4 to 4/4 are")
+        raise argparse.ArgumentTypeError(f"{text} is not a part I/N, as 1/4 to 4/4 are")
     return Shard(int(match[1]), int(match[2]))
 
 

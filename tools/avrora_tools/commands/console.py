@@ -11,7 +11,7 @@ SUMMARY = "what each node wrote to USART0"
 
 DESCRIPTION = """Shows what each node writes to USART0, as a serial monitor does: each line with the cycle of its
 first byte and the node's number. A line ends with LF, CR or CR LF, or when the node stops or is silent for --idle
-cycles. Empty lines are shown too. Bytes that are no visible ASCII are shown as \\xHH, and a backslash as two. Stops are shown too.
+cycles. Empty lines are shown too. Bytes that are not visible ASCII are shown as \\xHH, and a backslash as two. Stops are shown too.
 The tool takes any rows of a trace, also of one that is still being written."""
 
 BYTES_A_LINE = 16  # with --hex

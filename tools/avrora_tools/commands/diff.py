@@ -18,7 +18,7 @@ it tells, by kind, how many are the same in other cycles, by how much, and which
 the rows of a kind in their order, without their cycles, and samples without their age too. If two differ, it looks
 for the next equal ones among 64.
 
-Status 0: no row differs; 1: one does; 2: bad words, a file that is no trace, or neither trace can have such rows."""
+Status 0: no row differs; 1: one does; 2: bad words, a file that is not a trace, or neither trace can have such rows."""
 
 COLUMN = 44  # where notes on a row begin
 
@@ -119,7 +119,7 @@ def kinds(text: str) -> set[str]:
     """The kinds of rows that a text such as serial,sent lists, for argparse."""
     found = set(text.split(","))
     if unknown := sorted(found - set(events.KINDS)):
-        raise argparse.ArgumentTypeError(f"{unknown[0] or 'nothing'} is no kind of row: {', '.join(events.KINDS)}")
+        raise argparse.ArgumentTypeError(f"{unknown[0] or 'nothing'} is not a kind of row: {', '.join(events.KINDS)}")
     return found
 
 

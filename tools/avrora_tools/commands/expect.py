@@ -39,7 +39,7 @@ Files are looked for in the case's folder. A trace must be whole, with an end ro
 The tool notices rows that were cut away at the front only if the window or a sample needs them (tools/README.md). It
 refuses what no trace can meet, and what this trace cannot meet: a node that it does not have, cycles behind its end,
 cycles for which the rows about them leave no room, instructions and entries outside of its window. It tells all that
-is not met. Status 0: all cases are met; 1: one is not; 2: one is no case, or there is no whole trace for it (a file
+is not met. Status 0: all cases are met; 1: one is not; 2: one is not a case, or there is no whole trace for it (a file
 or scenario is not there, is refused, or is cut off); 3: the simulator failed or took too long."""
 
 

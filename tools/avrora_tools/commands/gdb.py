@@ -46,7 +46,7 @@ def configure(parser: argparse.ArgumentParser) -> None:
 def port(text: str) -> int:
     number = cli.whole_number(text, 0)
     if number > 65_535:
-        raise argparse.ArgumentTypeError(f"{text} is no port: 0 to 65535, where 0 takes a free one")
+        raise argparse.ArgumentTypeError(f"{text} is not a port: 0 to 65535, where 0 takes a free one")
     return number
 
 

@@ -222,12 +222,12 @@ def span_of(text: str) -> Span:
     match = re.fullmatch(r"(?:0x)?([0-9A-Fa-f]{1,4})-(?:0x)?([0-9A-Fa-f]{1,4})", text)
     first, end = (int(match[1], 16), int(match[2], 16) + 1) if match else (1, 0)
     if not first < end <= states.DATA_END:
-        raise argparse.ArgumentTypeError(f"{text} is no range of data addresses such as 100-13F, up to 10FF")
+        raise argparse.ArgumentTypeError(f"{text} is not a range of data addresses such as 100-13F, up to 10FF")
     return first, end
 
 
 def check_programs(state: State, path: str, nodes: Sequence[int], all_programs: Programs, has_scenario: bool) -> None:
-    """Raises BadInput where a node is at what is no instruction of its program; warns where nothing else tells whose it
+    """Raises BadInput where a node is at what is not an instruction of its program; warns where nothing else tells whose it
     is."""
     unsure: dict[str, None] = {}
     for k in nodes:

@@ -20,7 +20,7 @@ star, of nodes that nothing reaches, and of parts that no link joins. The same w
 def two_numbers(text: str) -> networks.Pair:
     match = re.fullmatch(r"([0-9]{1,13})(?:,|\.\.)([0-9]{1,13})", text)
     if not match:
-        raise argparse.ArgumentTypeError(f"{text} is no pair A..B")
+        raise argparse.ArgumentTypeError(f"{text} is not a pair A..B")
     return int(match[1]), int(match[2])
 
 

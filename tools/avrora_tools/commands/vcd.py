@@ -321,7 +321,7 @@ def run(arguments: argparse.Namespace) -> int:
     )
     hearing = Hearing(scenario, trace.name) if scenario else None
     rows = iter(trace)
-    first = next(rows)  # what is no trace leaves no front of a dump
+    first = next(rows)  # what is not a trace leaves no front of a dump
     waves = waves_of(arguments, scenario, all_programs, nodes)
     writer = Writer(nodes, names, arguments.hz, waves.kinds if waves else None)
     dump = Dump(writer, nodes, byte_time, scenario.window if scenario else None, all_programs)

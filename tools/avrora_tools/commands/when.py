@@ -27,7 +27,7 @@ def run(arguments: argparse.Namespace) -> int:
     end = arguments.end if arguments.end is not None else scenario.cycles
     if not arguments.first < end <= scenario.cycles:
         raise BadInput(
-            f"{arguments.first:,} to {end:,} is no span of cycles below the scenario's limit of {scenario.cycles:,}"
+            f"{arguments.first:,} to {end:,} is not a span of cycles below the scenario's limit of {scenario.cycles:,}"
         )
     words = [f"{arguments.node}={arguments.elf}"] if arguments.elf else []
     program = programs.Programs(words, scenario, arguments.force).of(arguments.node)

@@ -55,7 +55,7 @@ def run(arguments: argparse.Namespace) -> int:
     scenario.refuse_endless()
     if not first < end <= min(scenario.cycles, first + MAX_WINDOW):
         raise BadInput(
-            f"[{first}, {end}] is no window of 1 to {MAX_WINDOW:,} cycles below the limit of {scenario.cycles:,}"
+            f"[{first}, {end}] is not a window of 1 to {MAX_WINDOW:,} cycles below the limit of {scenario.cycles:,}"
         )
     if arguments.state:
         cycle = State.load(arguments.state).cycle

@@ -182,7 +182,7 @@ def changes_of(text: bytes) -> Iterator[Change]:
             place = places[node, data, word] = Place(int(node), kind, int(address, 16))
         yield Change(int(cycle), place, int(byte, 16) if byte else None)
     if end != len(text):
-        raise CannotWork(f"what the simulator wrote is no change: {text[end : end + 60]!r}")
+        raise CannotWork(f"what the simulator wrote is not a change: {text[end : end + 60]!r}")
 
 
 def gather(changes: Iterable[Change], found: "dict[tuple[int, Place], array.array[int]]") -> None:

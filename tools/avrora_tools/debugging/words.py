@@ -80,7 +80,7 @@ class Words:
         cycle = self.bookmarks.get(words[0])
         if cycle is None:
             if not re.fullmatch(CYCLE, words[0]):
-                raise Refused(f"{printable(words[0])} is no cycle, and no bookmark")
+                raise Refused(f"{printable(words[0])} is neither a cycle nor a bookmark")
             cycle = int(re.sub("[_,]", "", words[0]))
         if cycle > self.session.history.limit:
             raise Refused(f"the run has {self.session.history.limit:,} cycles")
@@ -129,7 +129,7 @@ class Words:
         if len(words) < 2 or words[-2] != "of":
             return words, None
         if not re.fullmatch(NODE, words[-1]) or int(words[-1]) not in self.session.nodes():
-            raise Refused(f"{printable(words[-1])} is no node: they are 0 to {self.session.history.nodes - 1}")
+            raise Refused(f"{printable(words[-1])} is not a node: they are 0 to {self.session.history.nodes - 1}")
         return words[:-2], int(words[-1])
 
     def event(self, kind: str, node: int | None, forward: bool) -> tuple[int, int, str] | None:
@@ -239,7 +239,7 @@ def vector_of(name: str) -> int:
     for word, own in programs.VECTORS.items():
         if name.removesuffix("_vect") == own or name == f"{word:04X}":
             return word
-    raise Refused(f"{printable(name)} is no interrupt, such as USART0_RX")
+    raise Refused(f"{printable(name)} is not an interrupt, such as USART0_RX")
 
 
 def sent_by(one: OnAir) -> str:

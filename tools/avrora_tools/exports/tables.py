@@ -45,7 +45,7 @@ def written(rows: Iterable[TraceRow]) -> Iterator[str]:
         yield line.getvalue()
 
 
-TEXTS = frozenset(("kind", "instruction", "cause", "state"))  # columns that are no numbers
+TEXTS = frozenset(("kind", "instruction", "cause", "state"))  # columns that are not numbers
 ROWS_A_GROUP = 65_536
 BLOCK = 1 << 16
 

@@ -146,7 +146,7 @@ def change_of(record: dict[str, Any]) -> Change:
         if type(value) is not (str if name == "hex" else int):
             raise ValueError(f"{name} is {value!r}")
         if name == "hex" and not HEX.fullmatch(str(value)):
-            raise ValueError("hex is no bytes")
+            raise ValueError("hex is not a bytes")
     return form(**record)
 
 

@@ -32,7 +32,7 @@ class Term(NamedTuple):
     range: Range
 
     def is_true(self, values: Values) -> bool:
-        """What is no number is not true."""
+        """What is not a number is not true."""
         number = self.of(values)
         return number != 0 and number == number
 
@@ -53,7 +53,7 @@ COMPARISONS: dict[type[ast.cmpop], Callable[[Number, Number], bool]] = {
 
 
 def quotient(a: Number, b: Number) -> Number:
-    """As C divides: whole numbers towards 0. What is divided by 0 is no number."""
+    """As C divides: whole numbers towards 0. What is divided by 0 is not a number."""
     if b == 0:
         return math.nan
     if isinstance(a, float) or isinstance(b, float):
@@ -153,7 +153,7 @@ class Reader:
         try:
             tree = ast.parse(self.source, mode="eval").body
         except (SyntaxError, ValueError, MemoryError, RecursionError):
-            raise BadInput(f"`{shown}` is no condition such as `queued <= 3`") from None
+            raise BadInput(f"`{shown}` is not a condition such as `queued <= 3`") from None
         self.found, self.told = {}, {}
         try:
             term = self.term(tree, 0)
@@ -253,7 +253,7 @@ class Reader:
         """An element whose number is worked out: all of them are watched. One that is not there is no number."""
         whole = bare(self.names.part(name).type)
         if not isinstance(whole, Array):
-            raise BadInput(f"`{files.printable(name)}` is no array")
+            raise BadInput(f"`{files.printable(name)}` is not an array")
         if whole.count > MOST_ELEMENTS:
             raise BadInput(
                 f"`{files.printable(name)}` has {whole.count:,} elements, and {MOST_ELEMENTS} are the most: name one"
@@ -340,7 +340,7 @@ def constant(value: object) -> Term:
     if isinstance(value, (int, float)):  # True and False, too, are 1 and 0
         number: Number = value
         return Term(lambda values: number, Range(number, number))
-    raise BadInput(f"`{files.printable(str(value))[:40]}` is no number and no character")
+    raise BadInput(f"`{files.printable(str(value))[:40]}` is neither a number nor a character")
 
 
 def parts_of(tree: ast.expr) -> list[str | ast.expr]:
@@ -356,4 +356,4 @@ def parts_of(tree: ast.expr) -> list[str | ast.expr]:
             return [*parts_of(tree.value), f"[{index.value}]"]
         if not isinstance(index, (ast.Slice, ast.Tuple)):
             return [*parts_of(tree.value), index]
-    raise BadInput(f"`{spelled(tree)}` is no name")
+    raise BadInput(f"`{spelled(tree)}` is not a name")

@@ -68,7 +68,7 @@ def change_of(line: str) -> Change:
     """A line of what `avrora watch` writes. Raises CannotWork where it is none."""
     match = CHANGE.fullmatch(line)
     if not match:
-        raise CannotWork(f"what the simulator wrote is no change: {line[:60]!r}")
+        raise CannotWork(f"what the simulator wrote is not a change: {line[:60]!r}")
     cycle, node = int(match[1]), int(match[2])
     if match[5]:
         return Change(cycle, Place(node, Kind.AT, int(match[5], 16)), None)

@@ -190,7 +190,7 @@ class Names:
         first = re.split(r"[.\[]", name, maxsplit=1)[0]
         shown = files.printable(name)
         if self.program is None:
-            return f"`{shown}` is no register, and no program is known: {self.named_by} names its ELF file"
+            return f"`{shown}` is not a register, and no program is known: {self.named_by} names its ELF file"
         if why := why_without_place(self.program.path, name, first):
             return f"{self.whose}: `{shown}` {why}"
         enumerators = enumerators_of(self)

@@ -56,7 +56,7 @@ class Point:
 @dataclass(frozen=True)
 class ArrivalClass:
     """Values of a moved event that make one execution. Without a point the event is never noticed, or, of an event that
-    is no arrival, it is not known where."""
+    is not an arrival, it is not known where."""
 
     moves: range
     point: Point | None = None
@@ -84,7 +84,7 @@ class Watch:
         self.behind: int | None = None
         self.handlers: list[int] = []
         self.asleep_at = start.asleep_at  # the address to return to from the sleep
-        self.next = start.cycle + 1  # the first cycle of the sleep that is no point yet
+        self.next = start.cycle + 1  # the first cycle of the sleep that is not a point yet
         self.stores: set[int] = set()  # the addresses of those through pointers with I clear
 
     def points(self, rows: Iterable[Row], end: int) -> Iterator[Point]:

@@ -49,7 +49,7 @@ class Journal:
         found = self.file.read()
         kept = self.read(found.split(b"\n"))
         if not kept and not self.line({"sweep": self.whose}).startswith(found):
-            raise BadInput(f"{shown(self.path)}: it is no file of `sweep --resume`")
+            raise BadInput(f"{shown(self.path)}: it is not a file of `sweep --resume`")
         self.file.truncate(kept)
         if not kept:
             self.write({"sweep": self.whose})
