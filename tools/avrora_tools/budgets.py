@@ -7,6 +7,7 @@ from dataclasses import dataclass, fields
 from avrora_tools import toml
 from avrora_tools.cli import CLOCK, node_set
 from avrora_tools.errors import BadInput
+from avrora_tools.files import printable
 from avrora_tools.listening import Radio
 from avrora_tools.profiles import ASLEEP_CHARGE, BUSY_CHARGE, SEND_CHARGE, Spent
 
@@ -121,7 +122,7 @@ def table_of(text: str, name: str) -> Table:
         raise BadInput(f"{name}, line {fault.line}: no TOML: {fault.why}") from None
     names = [part.name for part in fields(Currents)]
     if unknown := set(document) - {*names, "hz", "battery", "node"}:
-        raise BadInput(f"{name}: a table of currents has no key {sorted(unknown)[0]}")
+        raise BadInput(f"{name}: a table of currents has no key {printable(sorted(unknown)[0])}")
     common = Currents(*(current(document, key, name) for key in names if key != OFF or key in document))
     by_node: dict[int, Currents] = {}
     tables = document.get("node", {})
@@ -129,7 +130,7 @@ def table_of(text: str, name: str) -> Table:
         raise BadInput(f"{name}: the currents of some nodes stand in tables such as [node.3] or [node.'1-4']")
     for key, table in tables.items():
         if unknown := set(table) - set(names):
-            raise BadInput(f"{name}: [node.{key}] has no key {sorted(unknown)[0]}")
+            raise BadInput(f"{name}: [node.{printable(key)}] has no key {printable(sorted(unknown)[0])}")
         own = Currents(*(current(table, part, name) if part in table else getattr(common, part) for part in names))
         by_node.update(dict.fromkeys(nodes_of(key, name), own))
     hz = current(document, "hz", name) if "hz" in document else float(CLOCK)

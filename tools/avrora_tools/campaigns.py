@@ -155,15 +155,15 @@ def read(path: str) -> Campaign:
     campaign_keys.check(path, table, campaign_keys.TOP)
     settings = {key: table.get(key, campaign_keys.TOP[key].default) for key in campaign_keys.TOP}
     if "run" not in table:
-        raise BadInput(f"{path}: no [[run]]")
+        raise BadInput(f"{printable(path)}: no [[run]]")
     files = Files()
     checks: list[runs.Check] = []
     groups: list[Group] = []
     for number, run in enumerate(table["run"], 1):
-        groups += groups_of(f"{path}, run {number}", run, folder, files, checks)
+        groups += groups_of(f"{printable(path)}, run {number}", run, folder, files, checks)
     ends = list(itertools.accumulate(group.count for group in groups))
     if ends and ends[-1] > MAX_RUNS:
-        raise BadInput(f"{path}: more than {MAX_RUNS:,} runs")
+        raise BadInput(f"{printable(path)}: more than {MAX_RUNS:,} runs")
     no_name_twice(path, groups)
     name = settings["name"] or stem(path)
     shipped_from = {name: os.path.relpath(path, folder) for path, name in files.names.items()}
@@ -178,7 +178,7 @@ def no_name_twice(path: str, groups: Sequence[Group]) -> None:
         if names[0].startswith(names[1]) or names[1].startswith(names[0]):
             name = common_name(one, other)
             if name is not None:
-                raise BadInput(f"{path}: two runs have the name {printable(name)}")
+                raise BadInput(f"{printable(path)}: two runs have the name {printable(name)}")
 
 
 def common_name(one: Group, other: Group) -> str | None:
@@ -312,7 +312,7 @@ def source_of(place: str, case: Case) -> Table:
         cycles = int(case.source[2])
         window = [0, min(cycles, NODE_WINDOW)]
         return {"cycles": cycles, "window": window, "node": [{"image": case.source[1]}]}
-    raise BadInput(f"{place}: {case.path} has no `run FILE` and no `node FILE CYCLES`")
+    raise BadInput(f"{place}: {printable(case.path)} has no `run FILE` and no `node FILE CYCLES`")
 
 
 @dataclasses.dataclass(frozen=True)

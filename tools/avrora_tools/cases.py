@@ -2,6 +2,7 @@
 can meet, or that each trace meets, is refused when it is read."""
 import argparse
 import ast
+import bisect
 import operator
 import os
 import re
@@ -207,17 +208,18 @@ def refuse_certain(name: str, statements: list[Statement], only: Only) -> None:
     """Raises BadInput where an expectation is met by each trace, or by none: each has an end row of each of its nodes,
     in their order, and nothing behind them."""
     above: list[Expected] = []
+    order = Above()
+    last_expected = max((it.line for it in statements if isinstance(it, Expected)), default=0)
     for statement in statements:
         why = None
         if isinstance(statement, Expected):
-            why = why_out_of_order(statement, above)
+            why = order.why_none_behind(statement)
             if not why and (statement.most is None or statement.pattern.covers(ANY_ROW)):
                 why = why_certain(statement.pattern, above, only)
             above.append(statement)
+            order.add(statement)
         elif isinstance(statement, Never):
-            is_last = statement.span is None and not any(
-                isinstance(it, Expected) and it.line > statement.line for it in statements
-            )
+            is_last = statement.span is None and statement.line > last_expected
             if is_last or statement.span and cover([statement.span], [LIMITS]):
                 why = why_certain(statement.pattern, above if is_last else [], only)
         elif isinstance(statement, Count):
@@ -237,20 +239,45 @@ def why_certain(pattern: Pattern, above: list[Expected], only: Only) -> str | No
     return None
 
 
-def why_out_of_order(statement: Expected, above: list[Expected]) -> str | None:
-    """Why no row can come behind one that is expected above."""
-    for other in above:
-        if other.pattern.kinds == {End.kind}:
-            if End.kind not in statement.pattern.kinds:
-                return f"no such row comes behind an end row, which line {other.line} expects"
-            if statement.pattern.kinds == {End.kind} and max(statement.pattern.nodes) <= min(other.pattern.nodes):
-                return f"no such row comes behind that of line {other.line}, as end rows come in the order of nodes"
-        if not other.pattern.is_relative and not statement.pattern.is_relative:
-            first = min(span.first for span in other.pattern.cycles)
-            lasts = [span.last for span in statement.pattern.cycles]
-            if None not in lasts and max(last for last in lasts if last is not None) < first:
-                return f"no such row comes behind that of line {other.line}, whose cycle is {first} at least"
-    return None
+class Above:
+    """The rows that are expected so far, as far as they tell that no row can come behind them."""
+
+    def __init__(self) -> None:
+        self.ends: dict[int, Expected] = {}  # those that are end rows alone, by the least node of each: the first
+        self.firsts: list[int] = []  # the least cycles of rows, where one is greater than all before
+        self.latest: list[Expected] = []  # and the rows
+
+    def add(self, row: Expected) -> None:
+        if row.pattern.kinds == {End.kind}:
+            self.ends.setdefault(min(row.pattern.nodes), row)
+        if not row.pattern.is_relative:
+            first = min(span.first for span in row.pattern.cycles)
+            if not self.firsts or first > self.firsts[-1]:
+                self.firsts.append(first)
+                self.latest.append(row)
+
+    def why_none_behind(self, row: Expected) -> str | None:
+        """Why no such row can come behind those."""
+        found = [*self.behind_ends(row), *self.behind_cycles(row)]
+        return min(found, key=lambda one: one[0].line)[1] if found else None
+
+    def behind_ends(self, row: Expected) -> Iterator[tuple[Expected, str]]:
+        if End.kind not in row.pattern.kinds:
+            for other in self.ends.values():
+                yield other, f"no such row comes behind an end row, which line {other.line} expects"
+        elif row.pattern.kinds == {End.kind}:
+            for node, other in self.ends.items():
+                if max(row.pattern.nodes) <= node:
+                    why = f"no such row comes behind that of line {other.line}, as end rows come in the order of nodes"
+                    yield other, why
+
+    def behind_cycles(self, row: Expected) -> Iterator[tuple[Expected, str]]:
+        lasts = [] if row.pattern.is_relative else [span.last for span in row.pattern.cycles]
+        if lasts and None not in lasts:
+            place = bisect.bisect_right(self.firsts, max(last for last in lasts if last is not None))
+            for other, first in zip(self.latest[place : place + 1], self.firsts[place:]):
+                why = f"no such row comes behind that of line {other.line}, whose cycle is {first} at least"
+                yield other, why
 
 
 def why_count_is_certain(count: Count, only: Only, extent: Extent | None) -> str | None:
@@ -312,7 +339,8 @@ def cycles_of(kind: str, spans: Sequence[Span], extent: Extent | None) -> int | 
 
 
 def without_comment(line: str) -> str:
-    match = re.match(r"""(?:"(?:\\.|[^"\\])*"|'(?:\\.|[^'\\])*'|[^#])*""", line)
+    """A line up to its comment. A quote that nothing ends is a sign like others, and so is all behind it."""
+    match = re.match(r"""((?:"(?:\\.|[^"\\])*"|'(?:\\.|[^'\\])*'|[^#"'])*)([^#]*)""", line)
     return match[0] if match else ""
 
 

@@ -69,10 +69,12 @@ def opened_named(name: str) -> Iterator[BinaryIO]:
 
 
 def is_below(path: str, folder: str) -> bool:
-    """Whether a file lies in a folder, wherever links lead, and has no other name, by which it may lie elsewhere."""
+    """Whether a file lies in a folder, wherever links lead, and has no other name, by which it may lie elsewhere. What
+    is hidden there, such as .git/config and .env, is the user's, and of no repository."""
     with contextlib.suppress(OSError, ValueError):
         is_alone = os.stat(path).st_nlink == 1
-        return is_alone and os.path.realpath(path).startswith(os.path.join(os.path.realpath(folder), ""))
+        top, place = os.path.join(os.path.realpath(folder), ""), os.path.realpath(path)
+        return is_alone and place.startswith(top) and "/." not in f"/{place.removeprefix(top)}"
     return False
 
 
@@ -86,7 +88,7 @@ def untold(path: str, folder: str) -> Iterator[None]:
         place = re.match(re.escape(shown(path)) + r"(?:, line \d+)?", str(fault))
         if not place or is_below(path, folder):
             raise
-        where = f"it lies outside of {shown(folder)}, or has another name, so none of its text is told"
+        where = f"it lies outside of {shown(folder)}, is hidden, or has another name, so none of its text is told"
         raise BadInput(f"{place[0]}: not what it should be; {where}") from None
 
 

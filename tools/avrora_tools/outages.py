@@ -88,7 +88,7 @@ def closed(place: str, axis: Any, value: Any) -> list[Span]:
     spans = [value] if isinstance(value, list) and value and type(value[0]) is int else value
     if axis.length or not are_spans(spans):
         forms = "a span such as [10_000, 40_720], a list of spans, or a range with a length"
-        raise BadInput(f"{place}: {axis.key} is not {forms}")
+        raise BadInput(f"{place}: {printable(axis.key)} is not {forms}")
     return [(first, end) for first, end in spans]
 
 

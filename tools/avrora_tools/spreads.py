@@ -5,6 +5,7 @@ from typing import Any
 
 from avrora_tools.campaign_keys import Table
 from avrora_tools.errors import BadInput
+from avrora_tools.files import printable
 from avrora_tools.outages import is_outage
 from avrora_tools.variants import Axis
 
@@ -35,29 +36,30 @@ def axis_of(place: str, key: str, values: Any) -> Axis:
         first, last, step, drawn = (values.get(word) for word in ("from", "to", "step", "drawn"))
         step = 1 if step is None else step
         if is_outage(key) and values.get("length", 0) < 1:
-            raise BadInput(f"{place}: {key} has no length of 1 and more: {{ from = A, to = B, length = N }}")
+            raise BadInput(f"{place}: {printable(key)} has no length of 1 and more: {{ from = A, to = B, length = N }}")
         if first is not None and last is not None and first <= last and step > 0 and (drawn is None or drawn > 0):
             if (drawn is None or drawn > MOST_DRAWN) and (last - first) // step >= MAX_RUNS:
-                raise BadInput(f"{place}: {key} has more than {MAX_RUNS:,} values")
+                raise BadInput(f"{place}: {printable(key)} has more than {MAX_RUNS:,} values")
             numbers = range(first, last + 1, step)
             return Axis(key, numbers if drawn is None else drawn_of(place, key, numbers, values), values.get("length"))
-    raise BadInput(f"{place}: {key} has no list of values and no {FORMS}")
+    raise BadInput(f"{place}: {printable(key)} has no list of values and no {FORMS}")
 
 
 def drawn_of(place: str, key: str, numbers: range, values: Table) -> Sequence[int]:
     """So many different numbers, in rising order; `seed` and the key decide which, the same ones on each machine."""
     count = values["drawn"]
-    if count >= len(numbers):
+    size = (numbers[-1] - numbers[0]) // numbers.step + 1  # which may be more than `len` tells
+    if count >= size:
         return numbers
     if count > MOST_DRAWN:
-        raise BadInput(f"{place}: {key} has more than {MOST_DRAWN:,} drawn values")
-    is_left_out = count > len(numbers) // 2 and len(numbers) <= 2 * MOST_DRAWN
-    wanted = len(numbers) - count if is_left_out else count
+        raise BadInput(f"{place}: {printable(key)} has more than {MOST_DRAWN:,} drawn values")
+    is_left_out = count > size // 2 and size <= 2 * MOST_DRAWN
+    wanted = size - count if is_left_out else count
     found: set[int] = set()
     place_in = 0
     while len(found) < wanted:
         digest = hashlib.sha256(f"{values.get('seed', 0)} {key} {place_in}".encode("utf-8", "surrogateescape")).digest()
-        found.add(int.from_bytes(digest[:16], "big") % len(numbers))
+        found.add(int.from_bytes(digest[:16], "big") % size)
         place_in += 1
-    chosen = (index for index in range(len(numbers)) if index not in found) if is_left_out else sorted(found)
+    chosen = (index for index in range(size) if index not in found) if is_left_out else sorted(found)
     return [numbers[index] for index in chosen]

@@ -17,9 +17,10 @@ TOO_DEEP = f"more than {MAX_DEPTH} arrays and tables in one another"
 
 BYTE_ORDER_MARK = "\ufeff"
 
+# A text that nothing ends goes on to where it would: else each mark in it would be sought an end of again.
 TOKEN = re.compile(
-    r'"""(?:\\.|[^\\])*?"{3,5}|\'\'\'.*?\'{3,5}|'  # texts of several lines
-    r'"(?:\\.|[^"\\\n])*"|\'[^\'\n]*\'|#[^\n]*|[ \t\r]+|[\[\]{},=.\n]|[^\s#"\'\[\]{},=.]+|.',
+    r'"""(?:\\.|[^\\]|\\\Z)*?(?:"{3,5}|\Z)|\'\'\'.*?(?:\'{3,5}|\Z)|'  # texts of several lines
+    r'"(?:\\.|[^"\\\n])*"?|\'[^\'\n]*\'?|#[^\n]*|[ \t\r]+|[\[\]{},=.\n]|[^\s#"\'\[\]{},=.]+|.',
     re.DOTALL,
 )
 ESCAPE = re.compile(r"\\(?:x([0-9A-Fa-f]{2})|(e)|.)", re.DOTALL)

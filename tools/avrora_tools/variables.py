@@ -35,6 +35,9 @@ MOST_DEPTH = 8
 # More values than a variable of the data space has, in unions too; of a type that has more, the bytes are shown.
 MOST_VALUES, MOST_DIMENSIONS = 65_536, 32
 
+# More bytes than a variable of the data space has, and more than a number of avr-gcc has.
+LARGEST, LARGEST_NUMBER = 65_536, 16
+
 
 class Memory(Protocol):
     """A data space, and what stands where."""
@@ -285,10 +288,31 @@ def number_of(type_: Type, data: bytes) -> int | float:
 
 
 def values_in(type_: Type) -> int:
-    """How many numbers, pointers and the like a value of a type shows."""
+    """How many numbers, pointers and the like a value of a type shows. One of no part counts too: it takes a time."""
     while isinstance(type_, Renamed):
         type_ = type_.type
-    return type_.values if isinstance(type_, (Array, Structure)) else 1
+    return max(1, type_.values) if isinstance(type_, (Array, Structure)) else 1
+
+
+def is_possible(type_: Type) -> bool:
+    """Whether a value of a type may lie in the data space; debugging information may say anything. The types of parts
+    were looked at before."""
+    if isinstance(type_, (Base, Enumeration, Pointer)):
+        return 0 <= type_.size <= LARGEST_NUMBER
+    while isinstance(type_, Array):
+        if type_.count < 0 or not 0 <= type_.size <= LARGEST or type_.values > MOST_VALUES:
+            return False
+        type_ = type_.element
+    if isinstance(type_, Structure):
+        fits = 0 <= type_.size <= LARGEST and type_.values <= MOST_VALUES
+        return fits and all(map(is_possible_member, type_.members))
+    return True
+
+
+def is_possible_member(one: Member) -> bool:
+    if not 0 <= one.at <= LARGEST:
+        return False
+    return one.bits is None or 0 < one.bits <= 8 * LARGEST_NUMBER and 0 <= one.low_bit <= 8 * LARGEST
 
 
 def dimensions(type_: Type) -> int:
@@ -368,10 +392,15 @@ class Unit:
         for child in entry.iter_children():
             if child.tag == "DW_TAG_variable":
                 if (address := address_of(child)) is not None and (name := self.attribute(child, "DW_AT_name")):
-                    yield Variable(prefix + text_in(name), address, self.type_of(child))
+                    yield Variable(prefix + text_in(name), address, self.type_at(address, child))
             elif child.tag in ("DW_TAG_subprogram", "DW_TAG_inlined_subroutine", "DW_TAG_lexical_block"):
                 name = self.attribute(child, "DW_AT_name") if child.tag != "DW_TAG_lexical_block" else None
                 yield from self.within(child, f"{text_in(name)}." if name else prefix)
+
+    def type_at(self, address: int, entry: Any) -> Type:
+        """The type of a variable at an address; of one that ends behind the data space the bytes that are there."""
+        found, room = self.type_of(entry), DATA_END - address
+        return found if found.size <= room else Opaque(found.name, room)
 
     def attribute(self, entry: Any, name: str) -> Any:
         """An attribute of an entry, or of the one that it stands for."""
@@ -413,8 +442,10 @@ class Unit:
         if known is None:
             self.types[entry.offset] = Opaque("..", 0)  # of one that has itself as a part, which C forbids
             made = self.made(entry)
-            if values_in(made) > MOST_VALUES or dimensions(made) > MOST_DIMENSIONS:
+            if dimensions(made) > MOST_DIMENSIONS or not is_possible(made):
                 made = Opaque(text_in(self.attribute(entry, "DW_AT_name") or b"?"), made.size)
+            if isinstance(made, Opaque):
+                made = Opaque(made.name, min(max(made.size, 0), LARGEST))
             known = self.types[entry.offset] = made
         return known
 
@@ -468,7 +499,7 @@ class Unit:
         if len(counts) > MOST_DIMENSIONS:
             return Opaque("?", found.size * math.prod(counts))
         for count in reversed(counts):
-            found = Array(found, count, count * values_in(found))
+            found = Array(found, count, max(1, count) * values_in(found))
         return found
 
     def count(self, entry: Any) -> int:

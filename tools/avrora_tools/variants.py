@@ -92,7 +92,7 @@ class Group:
         self.count = math.prod(len(axis.values) for axis in axes)
         for axis in axes:
             if not isinstance(axis.values, range) and len({shown(value) for value in axis.values}) < len(axis.values):
-                raise BadInput(f"{place}: two runs have the same name, as {axis.key} has a value twice")
+                raise BadInput(f"{place}: two runs have the same name, as {printable(axis.key)} has a value twice")
 
     def run(self, index: int, number: int) -> Run:
         """The run of this index, which has this number in the campaign."""
@@ -108,19 +108,20 @@ class Group:
 
     def index_of(self, name: str) -> int | None:
         """The index of the run of this name."""
-        places = self.places_of(name.removeprefix(self.name), 0) if name.startswith(self.name) else None
+        places = self.places_of(name.removeprefix(self.name), 0, set()) if name.startswith(self.name) else None
         index = 0
         for axis, place in zip(self.axes, places or ()):
             index = index * len(axis.values) + place
         return None if places is None else index
 
-    def places_of(self, text: str, first: int) -> list[int] | None:
-        """The places of the values of the axes from the `first` on that a part of a name has."""
+    def places_of(self, text: str, first: int, dead: set[tuple[int, int]]) -> list[int] | None:
+        """The places of the values of the axes from the `first` on that the end of a name has. `dead` has the ends that
+        the axes from one on do not have: values may have keys in them, so that there are many ways to each end."""
         if first == len(self.axes):
             return [] if not text else None
         axis = self.axes[first]
         head = f" {axis.key}="
-        if not text.startswith(head):
+        if not text.startswith(head) or (first, len(text)) in dead:
             return None
         rest = text[len(head) :]
         if isinstance(axis.values, range):
@@ -131,9 +132,10 @@ class Group:
             texts = enumerate(map(shown, axis.values))
             choices = [(place, text) for place, text in texts if rest.startswith(text)]
         for place, value in choices:
-            others = self.places_of(rest[len(value) :], first + 1)
+            others = self.places_of(rest[len(value) :], first + 1, dead)
             if others is not None:
                 return [place, *others]
+        dead.add((first, len(text)))
         return None
 
     def scenario(self, values: Sequence[Any]) -> str:
@@ -435,7 +437,7 @@ def parsed(text: str, path: str) -> Table:
     try:
         return toml.loads(text)
     except toml.NotToml as fault:
-        raise BadInput(f"{path}: no TOML: {fault}") from None
+        raise BadInput(f"{printable(path)}: no TOML: {printable(str(fault))}") from None
 
 
 def content_name(content: bytes, path: str) -> str:

@@ -1,7 +1,7 @@
 #!/usr/bin/env python3
 """Runs the tools on repositories of a stranger (`repositories.py`), and looks for what must not come of them: anything
-changed in the victim's home or beside it, code run, a secret told, a control shown, a traceback, a tool that does not
-end, a verdict of a file that the stranger wrote.
+changed in the victim's home or beside it, code run, a secret told or written to a page, a control shown, a traceback, a
+tool that does not end, a verdict of a file that the stranger wrote, rounds of a hunt that nobody made.
 
     tools/tests/fuzz_repositories.py [COUNT] [SEED] [FIRST]    the repositories from number FIRST (else 0) on and below
     COUNT
@@ -10,6 +10,8 @@ end, a verdict of a file that the stranger wrote.
 Exit status: 0 nothing was found, 1 something was; each finding is told with the number of its repository.
 """
 import os
+import pathlib
+import re
 import resource
 import shutil
 import signal
@@ -46,6 +48,10 @@ print(f"{{latency}} 0 sent AA\\n{{latency + 9}} 1 heard 1 AA 0\\n5000 0 end 10 r
 """
 
 SECONDS = 300  # that no call takes, on a busy machine
+
+ROUNDS = 1  # of each hunt
+
+WRITTEN = ("out", "out.html", "out.svg", "out.xml", "out.info", "junit.xml")  # pages and the like
 
 # What is called, in the repository or from elsewhere: @ is the repository.
 CALLS = [
@@ -220,6 +226,14 @@ def faults(world, words, status, out, errors):
     text = (out + errors).decode("utf-8", "surrogateescape")
     if repositories.TOKEN in text:
         yield "it told a secret"
+    for name in WRITTEN:
+        path = f"{world.repo}/{name}"
+        if os.path.isfile(path) and not os.path.islink(path) and os.stat(path).st_nlink == 1:
+            if repositories.TOKEN.encode() in pathlib.Path(path).read_bytes():
+                yield f"it wrote a secret to {name}"
+    rounds = re.search(r"(\d+) rounds of seed", text)
+    if rounds and int(rounds[1]) > ROUNDS:
+        yield f"it told of {rounds[0]}, and made {ROUNDS} at most"
     if not (words[0] == "campaign" and "--scenario" in words) and words[0] != "mknet":
         if not all(line.isprintable() for line in text.split("\n")):
             yield f"it showed {[line for line in text.splitlines() if not line.isprintable()][:2]!r}"

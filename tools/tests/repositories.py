@@ -70,6 +70,13 @@ HOME = {
     "work/runs/a": "mine\n",
 }
 
+# What a victim has within his copy of the repository, where no repository has it.
+HIDDEN = {
+    ".git/config": f"[http]\n\textraheader = AUTHORIZATION: basic {TOKEN}\n",
+    ".env": f"TOKEN={TOKEN}\n",
+    ".secret": f"{TOKEN}\n" * 300,
+}
+
 SUPER = "d9d505f920a163d7"
 
 
@@ -162,6 +169,8 @@ class World:
         draw = self.draw
         for name in ("relay.trace", "relay.toml", "relay.hex"):
             shutil.copy(f"{DATA}/{name}", self.repo)
+        for name, text in HIDDEN.items():
+            self.write(f"{self.repo}/{name}", text)
         for name in SPIES:
             if draw.random() < 0.3:
                 shell = "" if name.endswith(".py") else f"#!{sys.executable} -IS\n"
@@ -206,6 +215,7 @@ class World:
                 f"{self.home}/.bashrc",
                 "deep/golden.rows",
                 "/dev/zero",
+                *HIDDEN,
             ]
         )
         source = draw.choice(
@@ -235,6 +245,8 @@ class World:
                 "count == 9: * 0 sent *",
                 "\x1b[31m",
                 f"{self.name()}",
+                '"' + '\\"' * 50_000,
+                "it's # 1",
             ],
             2,
         )
@@ -296,8 +308,11 @@ class World:
                 + b"\0"
             )
             content = content.replace(old, new)
+        if self.draw.random() < 0.3:
+            content = content.replace(b"relay.c\0", b".secret\0")
+        first = self.draw.choice([64, content.find(b"relay.c") if b"relay.c" in content else 64])
         for _ in range(self.draw.choice([0, 0, 3, 30])):
-            content[self.draw.randrange(64, len(content))] = self.draw.randrange(256)
+            content[self.draw.randrange(first, len(content))] = self.draw.randrange(256)
         self.write(f"{self.repo}/relay.elf", bytes(content))
 
     # ---- a campaign, and results that nobody's campaign wrote
@@ -338,6 +353,11 @@ class World:
             lines += ["vary = { number = [1, 2] }"]
         else:
             lines += ["[run.vary]", f"latency = [20, {draw.choice(['21', '22'])}]"]
+            if draw.random() < 0.2:
+                low, high = draw.choice([(-(2**63), 2**63 - 1), (0, 2**62), (5, 4), (0, 3)])
+                span = f"from = {low}, to = {high}, drawn = {draw.choice([1, 2, 0, 10**6 + 1])}"
+                key = quoted(draw.choice(["byte_time", "cycles", "a\n::x"]))
+                lines += [f"{key} = {{ {span} }}"]
             if draw.random() < 0.1:
                 lines += [f'"node.0.image" = [{quoted(image)}, {quoted(self.name())}]']
         self.write(f"{self.repo}/c.campaign", "\n".join(lines) + "\n")

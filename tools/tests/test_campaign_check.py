@@ -178,6 +178,13 @@ def test_drawn_values():
     assert all(value % 5 == 3 for value in drawn(drawn=100, first=3, step=5))
 
 
+def test_drawn_values_of_all_numbers():
+    """More than a list may have."""
+    found = drawn(drawn=100, first=-(2**63), last=2**63 - 1)
+    assert len(set(found)) == 100 and found == sorted(found) and found[0] < 0 < found[-1]
+    assert found[0] >= -(2**63) and found[-1] < 2**63
+
+
 @pytest.mark.parametrize("count", [1, 4, 5, 6, 9, 10, 11, 1_000])
 def test_drawn_values_of_a_few(count):
     found = drawn(drawn=count, first=20, last=29)

@@ -11,8 +11,9 @@ import time
 import pytest
 
 from campaign_runs import CAMPAIGN, folder, hear_interrupts, run_campaign, starts
-from support import LONG, TOOL, run_tool, wait_for
-from avrora_tools import stored
+from support import DATA, LONG, TOOL, run_tool, scratch, wait_for
+from avrora_tools import budgets, campaigns, stored, variants
+from avrora_tools.errors import BadInput
 
 GOOD = CAMPAIGN.replace("[1, 3, 4, 20, 30]", "[30, 31, 32]")
 RESULTS = "c.results/results.sqlite"
@@ -203,3 +204,38 @@ def test_an_image_that_never_ends():
         os.unlink(f"{path}/a.hex")
         os.symlink("/dev/zero", f"{path}/a.hex")
         assert run_campaign(path, without_dask=False)[0] == 2
+
+
+def test_names_that_may_be_read_in_many_ways():
+    """Values with keys in them: which run a name is of is found without going each way."""
+    count = 26
+    links = [f"link.{number}-{number + 1}.latency" for number in range(count)]
+    heads = [f" {key}=" for key in links]
+    axes = [variants.Axis(key, ["", "".join(heads[k + 1 :] + heads[: k + 1])]) for k, key in enumerate(links)]
+    group = variants.Group("here", "x", axes, 0)
+    name = f"x{''.join(heads) * count}"
+    assert group.index_of(f"{name}!") is None and group.index_of("x" + "".join(heads)) == 0
+
+
+def test_names_of_files_and_keys_begin_no_line():
+    """In a pipeline's log a line that begins with :: is a command."""
+    run = '[[run]]\nscenario = "net.toml"\n'
+    bad = "\\n::error::x"
+    for text in (
+        "attempts = 1\n",
+        "x = ",
+        f'{run}vary = {{ "latency{bad}" = 1 }}\n',
+        f'{run}vary = {{ "latency{bad}" = {{ from = 0, to = 9_000_000_000 }} }}\n',
+        f'{run}vary = {{ "link.1{bad}.outage" = [5] }}\n',
+        f'{run}vary = {{ "latency{bad}" = [1, 1] }}\n',
+    ):
+        with scratch("a\n::error::y.campaign", text) as path:
+            shutil.copy(f"{DATA}/relay.toml", os.path.join(os.path.dirname(path), "net.toml"))
+            with pytest.raises(BadInput) as refused:
+                campaigns.read(path)
+            assert "\n" not in str(refused.value) and "error" in str(refused.value)
+    table = "awake = 1.0\nasleep = 1.0\nsending = 1.0\nlistening = 1.0\n"
+    for more in (f'"{bad}" = 1\n', f'[node.0]\n"{bad}" = 1\n'):
+        with pytest.raises(BadInput) as refused:
+            budgets.table_of(table + more, "currents")
+        assert "\n" not in str(refused.value)

@@ -1,11 +1,13 @@
 """ELF files that a stranger made: they are read to an end, in bounded time and memory, or refused by name."""
 import io
+import pathlib
 import shutil
 import subprocess
 import sys
 
 import pytest
 
+from strange_dwarf import Entry, array, base, program, structure
 from support import scratch
 from avrora_tools import elf_files, programs, variables
 from avrora_tools.errors import BadInput
@@ -142,3 +144,77 @@ def test_what_a_block_raises_is_of_the_file(tmp_path):
         programs.Program(f"{tmp_path}/a.c")
     with pytest.raises(BadInput, match="no ELF file"):
         variables.variables_of(f"{tmp_path}/a.c")
+
+
+def nothing_in_itself(depth, width):
+    """Structures of structures, at whose bottom is nothing."""
+    found = [structure(0)]
+    for _ in range(depth):
+        found.append(structure(0, *[(found[-1], 0, {})] * width))
+    return found
+
+
+INT, CHAR = base(2), base(1, 0x08, "char")
+FLOAT, FIXED = 0x04, 0x0D
+NEGATIVE = array(CHAR, -(2**40))
+
+# What no program of the data space has, and what is told of it: its types, the last one that of the variable.
+IMPOSSIBLE = {
+    "an array of many arrays of nothing": [INT, array(INT, 2**62, 0)],
+    "an array of many arrays of less than nothing": [INT, array(INT, 2**62, -1)],
+    "a number of a tebibyte": [base(2**40)],
+    "a number of more bits than there are": [base(2**62)],
+    "a fixed-point number of a tebibyte": [base(2**40, FIXED, "_Accum")],
+    "a number of less than nothing": [base(-1)],
+    "an enumeration of a tebibyte": [Entry("enumeration", {"name": "e", "size": 2**40})],
+    "a pointer of a tebibyte": [Entry("pointer", {"size": 2**40})],
+    "a member of many bits": [INT, structure(2, (INT, 0, {"bits": 2**40, "low_bit": 0}))],
+    "a member before its byte": [INT, structure(2, (INT, 0, {"bits": 3, "low_bit": -5}))],
+    "a member far behind": [INT, structure(2, (INT, 2**40, {}))],
+    "a member far before": [INT, structure(2, (INT, -(2**40), {}))],
+    "structures of nothing, deep": nothing_in_itself(40, 2),
+    "structures of nothing, wide": nothing_in_itself(6, 60),
+    "values that others take away": [
+        *(CHAR, NEGATIVE, pairs := array(CHAR, 256, 200)),
+        *(both := structure(2, (NEGATIVE, 0, {}), (pairs, 0, {})), array(both, 250)),
+    ],
+}
+
+
+LOOKED_AT = """import resource, sys
+resource.setrlimit(resource.RLIMIT_AS, (1 << 30, 1 << 30))
+from avrora_tools.errors import BadInput
+from avrora_tools.inspection import NodeMemory, View
+from avrora_tools.observing.conditions import Reader
+from avrora_tools.observing.quantities import Names
+from avrora_tools.programs import Program
+class Node:
+    data = bytes(4352)
+for path in sys.argv[1:]:
+    program = Program(path)
+    names = Names(program)
+    lines = list(View(program).global_lines(Node, ["v"]))
+    print(path, len(lines) == 1 and len(lines[0]) < 4_000_000)
+    for ask in (
+        lambda: names.matching("v*"),
+        lambda: Reader(names).read("v == 1"),
+        lambda: Reader(names).read("v[r1].m1[r1][r1] == 1"),
+    ):
+        try:
+            ask()
+        except BadInput:
+            pass
+"""
+
+
+def test_types_that_fit_nowhere(tmp_path):
+    """They are shown as bytes, and nothing in them is named: neither memory nor time follows what they say."""
+    paths = [program(f"{tmp_path}/{number}.elf", *types) for number, types in enumerate(IMPOSSIBLE.values())]
+    words = [sys.executable, "-c", LOOKED_AT, *paths]
+    done = subprocess.run(words, capture_output=True, text=True, timeout=2 * SECONDS, check=False)
+    assert done.stderr == "" and done.stdout.split("\n") == [*(f"{path} True" for path in paths), ""]
+
+
+def test_a_variable_that_ends_behind_the_data_space(tmp_path):
+    content = pathlib.Path(program(f"{tmp_path}/a.elf", base(4, FLOAT, "float"), address=0x10FE)).read_bytes()
+    assert read(content) == ("v float 00 00\n", "")

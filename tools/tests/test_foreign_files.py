@@ -1,10 +1,11 @@
 """What a case may name: it is read to an end, none of a secret is told, and nothing is written elsewhere."""
 import os
 import shutil
+import time
 
 import pytest
 
-from avrora_tools import main
+from avrora_tools import cases, main, toml
 from avrora_tools.errors import BadInput
 from support import DATA, run_tool
 
@@ -24,6 +25,9 @@ def place(tmp_path):
     os.symlink("../secret", tmp_path / "mine" / "folder")
     os.link(tmp_path / "secret" / "file", tmp_path / "mine" / "second")
     os.mkfifo(tmp_path / "mine" / "pipe")
+    (tmp_path / "mine" / ".git").mkdir()
+    for name in (".env", ".git/config"):
+        (tmp_path / "mine" / name).write_text(SECRET)
     yield tmp_path / "mine"
     assert (tmp_path / "secret" / "file").read_text() == SECRET
     assert sorted(os.listdir(tmp_path / "secret")) == ["file", "rows"]
@@ -37,7 +41,7 @@ def expect(place, case, *words):
 
 
 @pytest.mark.parametrize(
-    "name", ["@/secret/file", "../secret/file", "link", "second", "folder/file", "folder/rows", "@/secret/rows"]
+    "name", [*"@/secret/file ../secret/file link second folder/file folder/rows @/secret/rows .env .git/config".split()]
 )
 def test_secrets_are_not_told(place, name):
     name = name.replace("@", str(place.parent))
@@ -132,3 +136,37 @@ def test_golden_traces_are_saved_here(place, name):
     name = name.replace("@", str(place.parent))
     assert expect(place, f"trace relay.trace\ngolden {name}\n", "--save")[0] == 0
     assert expect(place, f"trace relay.trace\ngolden {name}\n")[0] == 0
+
+
+MARKS = 100_000
+SECONDS = 60  # of a processor; where each mark is sought an end of again it takes many minutes
+
+
+@pytest.mark.parametrize(
+    "text",
+    ['a = "' + r"\"" * MARKS, 'a = """\n' + '\\"""\n' * MARKS + "\\", "a = '''\n" + "''\n" * MARKS],
+    ids=["a text", "a text of lines", "a literal text"],
+)
+def test_texts_that_nothing_ends(text):
+    begun = time.process_time()
+    with pytest.raises(toml.NotToml):
+        toml.loads(text)
+    assert list(toml.statements(text)) and time.process_time() - begun < SECONDS
+
+
+def test_quotes_that_nothing_ends():
+    for line, left in (("run it's.toml  # c", "run it's.toml  "), ("text 0 'a#b' # c", "text 0 'a#b' ")):
+        assert cases.without_comment(line) == left
+    begun = time.process_time()
+    assert len(cases.without_comment('"' + r"\"" * MARKS)) == 2 * MARKS + 1
+    assert time.process_time() - begun < SECONDS
+
+
+def test_a_case_of_many_rows(tmp_path):
+    """What stands above a row is not gone through for each."""
+    begun = time.process_time()
+    (tmp_path / "a.expect").write_text("".join(f"{cycle} 0 sent AA\n" for cycle in range(20_000)))
+    assert len(cases.read_case(f"{tmp_path}/a.expect").statements) == 20_000
+    (tmp_path / "a.expect").write_text("never * 0 sent AA\n" * 20_000 + "* 0 sent BB\n")
+    assert len(cases.read_case(f"{tmp_path}/a.expect").statements) == 20_001
+    assert time.process_time() - begun < SECONDS

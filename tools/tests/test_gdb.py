@@ -378,7 +378,7 @@ def test_nothing_can_be_written(folder):
 
 NO_PACKETS = """m m0 mzz,4 m-5,5 m800000,-1 m0,11111111111111111 p pzz Z0 Z0, Z0,zz,2 z1,5 Hgzz Tx T vCont vCont;
 vCont;q vCont;s:zz vCont;r5:1 qThreadExtraInfo, qThreadExtraInfo,zz qRcmd,zz qRcmd,6 qXfer:threads:read::
-qXfer:threads:read::x,y qXfer:memory-map:read::0""".split()
+qXfer:threads:read::x,y qXfer:memory-map:read::0 Z2 Z2,xyz Z2,100,-1 z2 z2,1""".split()
 
 
 @pytest.mark.skipif(not PROGRAM, reason="needs a program (AVRORA_PROGRAM)")

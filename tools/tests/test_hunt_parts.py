@@ -71,6 +71,7 @@ def test_changes_of_a_scenario():
         {"changes": [{"form": "cut", "sender": "0", "hearer": 1, "first": 0, "end": 1}]},
         {"changes": [{"form": "node", "image": "/etc/passwd"}]},
         {"changes": [[]]},
+        {"changes": [{"form": "cut", "sender": 0, "hearer": 1, "first": 2 * k, "end": 2 * k + 1} for k in range(513)]},
     ],
 )
 def test_a_trial_of_a_file_says_nothing_else(record):
@@ -132,6 +133,32 @@ def test_trials_are_kept_as_they_are(tmp_path):
     (tmp_path / "it.hunt" / "hunt.json").write_text('{"version": 1}')
     with pytest.raises(BadInput, match="no corpus"):
         Corpus(str(tmp_path / "it.hunt"))
+
+
+def test_how_far_a_stranger_came_counts_for_nothing(tmp_path):
+    """Else a corpus would leave out the rounds that fail, and its hunt would tell of rounds that nobody made."""
+    corpus = Corpus(str(tmp_path))
+    corpus.begin(3, "a")
+    corpus.progress = Progress(7, {"cuts": 2}, {"cuts": Left(3, (TRIAL,), (TRIAL, TRIAL))}, 9)
+    corpus.take(Known([TRIAL]))
+    corpus.write()
+    path = tmp_path / "hunt.json"
+    mine = json.loads(path.read_text())
+    assert Corpus(str(tmp_path)).begin(3, "a").rounds == 7
+    strange = {"rounds": 8}, {"turns": 8}, {"credit": {}}, {"left": {}}, {"whose": "b"}, {"seal": "00" * 16}, {"seal": 7}
+    for theirs in (*strange, {"seed": 4}):
+        path.write_text(json.dumps({**mine, **theirs}))
+        found = Corpus(str(tmp_path))
+        assert found.begin(3, "a") == found.begin(4, "b") == Progress(), theirs
+        assert found.known.trials == [TRIAL], theirs
+    path.write_text(json.dumps({name: value for name, value in mine.items() if name != "seal"}))
+    assert Corpus(str(tmp_path)).begin(3, "a") == Progress()
+
+
+def test_a_trial_of_another_scenario_changes_nothing():
+    alone = {"cycles": 100, "node": [{"image": "a.hex"}]}
+    for change in (Cut(0, 1, 0, 5), Latency(0, 1, 7), Input(0, 1, 1, "41")):
+        assert Trial("cuts", "", (change,)).applied(alone).get("link", []) == []
 
 
 SAID = rows("100 1 sent AA", "1100 1 sent BB", "1500 0 heard 2 FF 0", "5000 1 sent CC", "5100 0 sent DD")

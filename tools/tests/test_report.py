@@ -249,6 +249,20 @@ def test_a_source_that_lies_elsewhere_is_not_shown(tmp_path):
     shutil.copy(place / "a.c", tmp_path / "own.c")
 
 
+@pytest.mark.parametrize("name", [".env", ".git/config"])
+def test_what_is_hidden_beside_a_program_is_not_shown(tmp_path, name):
+    """A clone has the user's own words in .git/config, such as a token of the pipeline."""
+    path = tmp_path / name
+    path.parent.mkdir(exist_ok=True)
+    path.write_text(f"{SECRET}\n" * 9)
+    named = f'\n#line 1 "{name}"\n volatile int i = 1; i++;\n return i; '
+    (tmp_path / "a.c").write_text(f"int main(void) {{{named}}}\n")
+    elf = built(tmp_path, "a", 10_000)
+    for words in ([], ["--sources", tmp_path]):
+        _, page, _ = report(tmp_path, "a", "-e", elf, "--no-sleep", *words)
+        assert SECRET not in page.text and f"{path.name}: " in page.text
+
+
 HOSTILE = "</script><!--<script>alert(1)</script>&\"'\u202e\x1b[31m"
 
 

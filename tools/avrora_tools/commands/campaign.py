@@ -248,7 +248,8 @@ def write_one(campaign: Campaign, arguments: argparse.Namespace) -> int:
     one = campaign.called(arguments.scenario)
     if one is None:
         name = files.printable(arguments.scenario)
-        raise BadInput(f"{campaign.path}: no run is called {name}; --list tells all names")
+        path = files.printable(campaign.path)
+        raise BadInput(f"{path}: no run is called {name}; --list tells all names")
     print(one.scenario(), end="")
     if arguments.images:
         results.write_images(arguments.images, one.images())

@@ -43,7 +43,7 @@ FORMS = {
     b"T": THREAD,
     b"D": rb"(?:;%s)?" % NUMBER,
     b"vKill": rb";%s" % NUMBER,
-    **dict.fromkeys((b"Z0", b"Z1", b"z0", b"z1"), rb",%s,%s.*" % (NUMBER, NUMBER)),
+    **dict.fromkeys((b"Z0", b"Z1", b"Z2", b"z0", b"z1", b"z2"), rb",%s,%s.*" % (NUMBER, NUMBER)),
 }
 
 THINKING = 0.05  # seconds without a packet: gdb waits for its user

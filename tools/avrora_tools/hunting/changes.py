@@ -13,6 +13,7 @@ Document = Mapping[str, Any]
 FOR_GOOD = 2**40  # where a cut ends that does not
 
 MOST_WAITING = 10_000  # trials that follow from others, and are not tried yet
+MOST_CHANGES = 512  # of a trial in a file; a hunt makes at most two for each link of a node
 
 # What a trial may say of itself in a file, which may be a stranger's.
 KIND, HEX = re.compile("[a-z]{1,20}"), re.compile("(?:[0-9A-Fa-f]{2})*")
@@ -46,8 +47,9 @@ class Cut:
     end: int
 
     def applied(self, document: Document) -> Document:
-        links = [cut_link(old, self) if ends_of(old) == (self.sender, self.hearer) else old for old in document["link"]]
-        return {**document, "version": 3, "link": links}
+        ends = (self.sender, self.hearer)
+        links = [cut_link(old, self) if ends_of(old) == ends else old for old in document.get("link", [])]
+        return {**document, "version": 3, "link": links} if links else document
 
     def is_for_good(self) -> bool:
         return self.end >= FOR_GOOD
@@ -67,8 +69,8 @@ class Latency:
 
     def applied(self, document: Document) -> Document:
         ends = (self.sender, self.hearer)
-        links = [{**old, "latency": self.cycles} if ends_of(old) == ends else old for old in document["link"]]
-        return {**document, "version": max(2, document.get("version", 1)), "link": links}
+        links = [{**old, "latency": self.cycles} if ends_of(old) == ends else old for old in document.get("link", [])]
+        return {**document, "version": max(2, document.get("version", 1)), "link": links} if links else document
 
     def __str__(self) -> str:
         return f"the latency {self.sender} to {self.hearer} is {self.cycles:,}"
@@ -135,6 +137,8 @@ def record_of(trial: Trial) -> dict[str, Any]:
 def trial_of(record: Any) -> Trial:
     """A trial out of JSON. Raises BadInput where it is none."""
     try:
+        if len(record["changes"]) > MOST_CHANGES:
+            raise ValueError(f"more than {MOST_CHANGES} changes")
         changes = [change_of(dict(change)) for change in record["changes"]]
         kind, what = str(record["kind"]), str(record["what"])
         if not KIND.fullmatch(kind):

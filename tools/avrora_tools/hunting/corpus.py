@@ -1,4 +1,7 @@
-"""What a hunt found and how far it came, in a folder: a later hunt tries first what failed, and goes on behind it."""
+"""What a hunt found and how far it came, in a folder: a later hunt tries first what failed, and goes on behind it.
+
+What a stranger's corpus says failed is tried too. How far it says that it came counts for nothing, as no round would be
+made of those that fail; a seal tells whose it is."""
 import json
 import os
 import re
@@ -6,7 +9,7 @@ from collections.abc import Mapping, Sequence
 from dataclasses import dataclass, field
 from typing import Any
 
-from avrora_tools import files
+from avrora_tools import files, seals
 from avrora_tools.errors import BadInput
 from avrora_tools.hunting.changes import MOST_WAITING, Left, Trial, record_of, trial_of
 from avrora_tools.hunting.visits import Visit
@@ -61,6 +64,12 @@ def left_of_record(record: Mapping[str, Any]) -> Left:
     return Left(max(0, int(record["count"])), following, idle)
 
 
+def seal_of(record: Mapping[str, Any]) -> str:
+    """What nobody but this user writes beside how far a hunt came."""
+    came = {name: record.get(name) for name in ("seed", "whose", *Progress().record())}
+    return seals.seal(seals.text_of(("how far a hunt came", json.dumps(came, sort_keys=True)))).hex()
+
+
 class Corpus:
     """The folder of a hunt. What it has is tried anew, so it decides nothing."""
 
@@ -79,8 +88,9 @@ class Corpus:
             found: Any = json.loads(files.read_named_text(path))
             if found["version"] != VERSION:
                 raise BadInput(f"{files.shown(path)}: of another version of this tool")
-            self.seed, self.whose = int(found["seed"]), str(found.get("whose", ""))
-            self.progress = Progress.of_record(found)
+            seed, whose, progress = int(found["seed"]), str(found.get("whose", "")), Progress.of_record(found)
+            if found.get("seal") == seal_of(found):
+                self.seed, self.whose, self.progress = seed, whose, progress
             self.take(Known.of_record(found))
         except (ValueError, KeyError, TypeError, AttributeError, OverflowError, RecursionError) as fault:
             raise BadInput(f"{files.shown(path)}: no corpus of a hunt: {type(fault).__name__}") from None
@@ -110,11 +120,11 @@ class Corpus:
         return self.progress
 
     def write(self, lasting: bool = False) -> None:
+        came = {"seed": self.seed, "whose": self.whose, **self.progress.record()}
         record = {
             "version": VERSION,
-            "seed": self.seed,
-            "whose": self.whose,
-            **self.progress.record(),
+            **came,
+            "seal": seal_of(came),
             "failed": [record_of(it) for it in self.trials.values()],
             "arrivals": [it.record() for it in self.arrivals],
         }

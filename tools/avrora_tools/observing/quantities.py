@@ -4,6 +4,7 @@ import dataclasses
 import difflib
 import fnmatch
 import functools
+import itertools
 import re
 from collections.abc import Iterator, Mapping
 from dataclasses import dataclass, field
@@ -211,16 +212,14 @@ class Names:
     def matching(self, pattern: str) -> list[Quantity]:
         """The scalars that a name or a pattern such as `queue*` stands for: of an array or a structure all that it has
         in it. Raises BadInput where there is none, or too many."""
-        if any(letter in pattern for letter in "*?"):
-            found = list(self.globbed(pattern))
-            if not found:
-                raise BadInput(self.why_none_matches(pattern))
-        else:
-            found = list(self.leaves(self.part(pattern)))
+        is_pattern = any(letter in pattern for letter in "*?")
+        every = self.globbed(pattern) if is_pattern else self.leaves(self.part(pattern))
+        found = list(itertools.islice(every, MOST_OF_A_PATTERN + 1))
+        if is_pattern and not found:
+            raise BadInput(self.why_none_matches(pattern))
         if len(found) > MOST_OF_A_PATTERN:
             raise BadInput(
-                f"`{files.printable(pattern)}` stands for {len(found):,} values, and {MOST_OF_A_PATTERN} are the most: "
-                "name some of them"
+                f"`{files.printable(pattern)}` stands for more than {MOST_OF_A_PATTERN} values: name some of them"
             )
         return found
 
