@@ -19,7 +19,7 @@ use Rattle.command_plans.specs.Reading.{Files, Accepted, verdict}
 use Rattle.command_plans.specs.declared.trouble.ImageCause.TheVariants as image_cause
 use Rattle.command_plans.specs.declared.trouble.ScenarioCause.TheVariants as scenario_cause
 use Rattle.commands.specs.Network.{network_of}
-use Rattle.commands.specs.Plan.{images_for, network_plan, span_or, span_plan}
+use Rattle.commands.specs.Plan.{images_for, network_plan, span_or, span_plan, up_to_or, up_to_plan}
 use Rattle.pieces_law.proofs.Verdicts.{parts, read}
 
 -- ---- the text of a scenario
@@ -85,21 +85,41 @@ network_is : (files : Files) (made network : ScenarioOf) → verdict files (Give
 unfolding verdict
 network_is files made network e = cc
 
-pub network_accepted : (files : Files) (file : List ℕ) (network : ScenarioOf) → verdict files (network_plan file) ≡ Accepted network → IsAccepted network
-network_accepted files file network e =
-    let p = parts files (scenario_plan file) (λ said. and_then (images_plan said.images) (λ images. Give (network_of said images))) network e in
-    let s = said_in files file p.got p.first in
-    let q = parts files (images_plan p.got.images) (λ images. Give (network_of p.got images)) network p.after in
-    let all = all_loaded files [] p.got.images q.got q.first in
+accepted_by : (files : Files) (text : List ℕ) (said : ScenarioParts) (network : ScenarioOf) → scenario_in text ≡ Ok said → verdict files (images_for said) ≡ Accepted network
+    → IsAccepted network
+accepted_by files text said network says e =
+    let q = parts files (images_plan said.images) (λ images. Give (network_of said images)) network e in
+    let all = all_loaded files [] said.images q.got q.first in
     record {
-      text = s.text;
-      parts = p.got;
-      says = s.says;
+      text = text;
+      parts = said;
+      says = says;
       files = all.texts;
       count = all.many;
       faultless = all.faultless;
-      is = network_is files (network_of p.got q.got) network q.after ∙ ap (network_of p.got) all.is;
+      is = network_is files (network_of said q.got) network q.after ∙ ap (network_of said) all.is;
     }
+
+pub network_accepted : (files : Files) (file : List ℕ) (network : ScenarioOf) → verdict files (network_plan file) ≡ Accepted network → IsAccepted network
+network_accepted files file network e =
+    let p = parts files (scenario_plan file) images_for network e in
+    let s = said_in files file p.got p.first in
+    accepted_by files s.text p.got network s.says p.after
+
+-- ---- one that is watched up to a cycle of its run
+up_to_in : (files : Files) (name : List ℕ) (said got : ScenarioParts) (b : Bool)
+    → verdict files (if b then Give said else Refuse (BadScenario name (scenario_cause.Faulty OutOfRange))) ≡ Accepted got → said ≡ got
+unfolding verdict
+up_to_in files name said got true e = cc
+up_to_in files name said got false e = absurd (cc)
+
+pub watched_accepted : (files : Files) (file : List ℕ) (to : ℕ) (network : ScenarioOf) → verdict files (up_to_plan file to) ≡ Accepted network → IsAccepted network
+watched_accepted files file to network e =
+    let p = parts files (and_then (scenario_plan file) (up_to_or file to)) images_for network e in
+    let t = parts files (scenario_plan file) (up_to_or file to) p.got p.first in
+    let s = said_in files file t.got t.first in
+    let same : t.got ≡ p.got = up_to_in files file t.got p.got (nat_le to t.got.topology.limit) t.after in
+    accepted_by files s.text p.got network (s.says ∙ ap Ok same) p.after
 
 -- ---- other cycles in place of its window
 window_in : (files : Files) (name : List ℕ) (from to : ℕ) (said got : ScenarioParts) (b : Bool)

@@ -6,7 +6,7 @@ ghost use Rattle.std.specs.Prelude.{◌≡◌, ◌++◌, ℕ, List, Some};
 ghost use Rattle.command_words.specs.Words.{MonitorSpan, Node, asked_by};
 ghost use Rattle.command_plans.specs.Reading.{Accepted, Accepts, Files, verdict};
 ghost use Rattle.commands.specs.Network.{lone_node};
-ghost use Rattle.commands.specs.Plan.{network_plan, plan, span_plan};
+ghost use Rattle.commands.specs.Plan.{network_plan, plan, span_plan, up_to_plan};
 ghost use Rattle.ihex_loader.specs.Flash.{Image};
 ghost use Rattle.node_runner.specs.Accepted.{IsAccepted};
 ghost use Rattle.node_runner.specs.Scenario.{IsScenario, ScenarioOf, with_script};
@@ -14,12 +14,13 @@ ghost use Rattle.sample_maker.specs.Sample.{sample};
 ghost use Rattle.serial_ports.specs.Script.{ScriptBytes};
 ghost use Rattle.pieces_law.specs.Pieces.{AreInTurn, AreOneSave, AreThePieces, IsInPieces};
 
-/// Every network that a call runs is a scenario: one that a command has accepted, which accepted texts give; the same with
-/// the window of `monitor FILE FROM TO`, and with what a move of `sweep` says arrives at a node; that of `node`, whatever
-/// its image; that of `make`. So what the laws of the order and of saved states ask for holds of it.
+/// Every network that a call runs is a scenario: one that a command has accepted, `watch` too, which accepted texts give;
+/// the same with the window of `monitor FILE FROM TO`, and with what a move of `sweep` says arrives at a node; that of
+/// `node`, whatever its image; that of `make`. So what the laws of the order and of saved states ask for holds of it.
 pub fn network_law()
     ensures texts { (files : Files) (file : List ℕ) (network : ScenarioOf) → verdict files (network_plan file) ≡ Accepted network → IsAccepted network }
     ensures scenario { (files : Files) (file : List ℕ) (network : ScenarioOf) → verdict files (network_plan file) ≡ Accepted network → IsScenario network }
+    ensures watched { (files : Files) (file : List ℕ) (to : ℕ) (network : ScenarioOf) → verdict files (up_to_plan file to) ≡ Accepted network → IsAccepted network }
     ensures alone { (words : List (List ℕ)) (file : List ℕ) (cycles : ℕ) (flash : Image) → asked_by words ≡ Some (Node file cycles)
         → IsScenario (lone_node flash cycles) }
     ensures sample { (number : ℕ) → IsScenario (sample number 8) }
