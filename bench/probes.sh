@@ -116,10 +116,10 @@ host_of() {
     (cd "$work" && valgrind --tool=callgrind --callgrind-out-file=/dev/null "$program" "$@" 2>&1 >/dev/null | awk '/Collected/ { print $4 }')
 }
 
-# HOST of `monitor` over all of so many cycles of the last probe's image.
-monitor() {
-    printf 'cycles = %d\nnode = [{ image = "probe.hex" }]\n' "$1" >"$work/probe.toml"
-    host_of monitor probe.toml 0 "$1"
+# HOST of `monitor`, or of `watch` with the places in a file, over all of so many cycles of the last probe's image.
+spanned() {
+    printf 'cycles = %d\nnode = [{ image = "probe.hex" }]\n' "$2" >"$work/probe.toml"
+    host_of "$1" probe.toml 0 "$2" "${@:3}"
 }
 
 # HOST of a sweep of a sleeping node to which so many stretches of a byte come, in order, behind a state of 262,144 cycles.
@@ -155,8 +155,16 @@ done < <(probes)
 # Rows are tallied many at once: with few at once, `monitor` takes far more for a cycle.
 printf 'again:\nldi r20, 1\ndec r20\nrjmp again\n' >"$work/probe.s"
 "$program" asm "$work/probe.s" >"$work/probe.hex"
-h=$(monitor 20000)
-over "monitor, a cycle" 80000 278 "$(($(monitor 100000) - h))"
+h=$(spanned monitor 20000)
+over "monitor, a cycle" 80000 278 "$(($(spanned monitor 100000) - h))"
+
+# Bytes of the SRAM that stay as they are, and instructions of which none begins, are passed over many at once.
+seq 256 319 | xargs printf '0 byte %04X\n' >"$work/bytes"
+h=$(spanned watch 2000 bytes)
+over "watch of 64 bytes, a cycle" 10000 529 "$(($(spanned watch 12000 bytes) - h))"
+seq 32768 32831 | xargs printf '0 at %04X\n' >"$work/addresses"
+h=$(spanned watch 2000 addresses)
+over "watch of 64 instructions, a cycle" 10000 1089 "$(($(spanned watch 12000 addresses) - h))"
 
 printf 'ldi r16, 0x20\nout 0x35, r16\nagain:\nsleep\nrjmp again\n' >"$work/probe.s"
 "$program" asm "$work/probe.s" >"$work/probe.hex"

@@ -106,6 +106,30 @@ class Bodies(unittest.TestCase):
         self.assertIn("const MOST: u64 = 1;", text)
         self.assertEqual((tree / answers.relative_to(self.crate) / "Answers.antt").read_text(encoding="utf-8"), "few : min a 1 ≡ c.1024x")
 
+    def test_answers_that_do_not_fit_any_more_are_left_out(self):
+        answers = self.crate / "proofs" / "door" / "step"
+        answers.mkdir(parents=True)
+        (answers / "Answers.antt").write_text("use A\n\npub one : goal.one\none c = a\n\npub two : goal.two\ntwo c = b\n", encoding="utf-8")
+        said = "./proofs/door/step/Answers.antt:3:12: error: `one`: module `A.Goals` has no `one` that can be named from here\n./proofs/Lib.antt:1:1: error: x\n"
+        self.assertEqual(made.leave_out(self.crate, said, ["door::step"]), ["door::step"])
+        self.assertEqual((answers / "Answers.antt").read_text(encoding="utf-8"), "use A\n\npub two : goal.two\ntwo c = b\n")
+        self.assertEqual(made.leave_out(self.crate, said, ["door::other"]), [])
+
+    def test_they_are_tried_once_more_without_those(self):
+        answers = self.crate / "proofs" / "door" / "step"
+        answers.mkdir(parents=True)
+        (answers / "Answers.antt").write_text("pub one : goal.one\none c = a\n", encoding="utf-8")
+        checker = mock.Mock()
+        checker.crate.name = "door"
+        checker.say.side_effect = [
+            ({"door::step": "not proved"}, [], "./proofs/door/step/Answers.antt:1:12: error: gone\n"),
+            ({"door::step": "proved"}, [], ""),
+        ]
+        trial = made.Trial(checker, self.crate, self.functions, 0)
+        wrong = next(it for it in self.wrongs if it.function.name == "door::step")
+        self.assertEqual(trial.checked([wrong], False), [wrong])
+        self.assertEqual([it.args[1] for it in checker.say.call_args_list], [["door::step"], ["door::step"]])
+
     def test_functions_that_call_one_another_are_tried_apart(self):
         trial = made.Trial(None, self.crate, self.functions, 0)
         taken, rest = trial.batch(self.wrongs)

@@ -7,7 +7,8 @@ It takes the body of each function (except `drop`, and those that are made for a
 then returns at once, gives the other of two answers, has another number or constant, leaves a call out, has an empty
 arm, turns a test, or names the other variant of an enum of the crate. Functions none of which calls another are
 changed in one copy of the crate, and checked by `--only` in one run. A number that is changed is changed in the
-answers of its function too, in a second try, so that a refusal is one of the contract and not of a literal.
+answers of its function too, in a second try, and answers that do not fit any more (of a loop or a branch that is gone,
+say) are left out in the next, so that a refusal is one of the contract.
 `Err(NoMemory)` is not tried: every contract that has it lets it through.
 
 A line for each body that is proved: FILE:LINE FUNCTION: what was changed. The last line counts those that were
@@ -45,6 +46,9 @@ STORE = re.compile(r"^\s*(?!let\b)[\w.]+(?:\[[^\]]*\])?(?:\.\w+)* [-+|&]?= .*;$"
 ARM = re.compile(r"^(\s*[^/]*=> )(?!\{)(.*\(.*\)),$")
 SAID = re.compile(r"^fn (?:\w+::)?(\S+): (.*)$")
 FRONT = re.compile(r"^(?:\S*/)?src/([\w/]+\.rt):(\d+):\d+: error")
+UNFIT = re.compile(r"^(?:\./)?(proofs/([\w/]+)/\w+\.antt):(\d+):\d+: error", re.M)
+# How often answers are left out: where some are gone, others may fit no more.
+MOST_TRIES = 3
 
 
 @dataclass
@@ -307,6 +311,23 @@ def put(tree, crate, wrongs, follow):
                     file.write_text(re.sub(rf"(?<![\w.]){wrong.literal[0]}(?![\w.])", wrong.literal[1], text), encoding="utf-8")
 
 
+def leave_out(tree, text, only):
+    """Takes those answers out of a copy that do not fit, by what the checker says; the functions among these whose they were."""
+    unfit = {}
+    for it in UNFIT.finditer(text):
+        if (name := it[2].replace("/", "::")) in only:
+            unfit.setdefault((it[1], name), set()).add(int(it[3]))
+    for (file, _), lines in unfit.items():
+        path, kept, at = tree / file, [], 1
+        for block in path.read_text(encoding="utf-8").split("\n\n"):
+            behind = at + block.count("\n") + 2
+            if not lines.intersection(range(at, behind)):
+                kept.append(block)
+            at = behind
+        path.write_text("\n\n".join(kept), encoding="utf-8")
+    return sorted({name for _, name in unfit})
+
+
 class Trial:
     """Bodies that wait to be tried, and what came of the others."""
 
@@ -347,6 +368,11 @@ class Trial:
                 put(tree, self.crate, wrongs, follow)
                 only = sorted({name for it in wrongs for name in getattr(it, "users", [it.function.name])})
                 said, front, text = self.checker.say(tree, only)
+                for _ in range(MOST_TRIES):
+                    if front or not (names := leave_out(tree, text, only)):
+                        break
+                    again, _, text = self.checker.say(tree, names)
+                    said.update({name: again.get(name, "") for name in names})
             if not front and said:
                 return [it for it in wrongs if all(said.get(n, "").startswith("proved") for n in getattr(it, "users", [it.function.name]))]
             files = {file for file, _ in front}
@@ -359,7 +385,6 @@ class Trial:
                 return [found for it in wrongs for found in self.checked([it], follow)]
             self.unread += len(bad)
             wrongs = [it for it in wrongs if it not in bad]
-            del text
         return []
 
     @staticmethod

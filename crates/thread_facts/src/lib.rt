@@ -24,8 +24,8 @@ static APART: [&str; 3] = ["avrora", "run", "gates_apart.toml"];
 
 static MAKE: [&str; 3] = ["avrora", "make", "0"];
 
-// All that is done on one thread, one space between words, of which some calls have five with the program's name.
-static ON_ONE: [&str; 15] = [
+// All that is done on one thread, one space between words, of which a call has eight at most, with the program's name.
+static ON_ONE: [&str; 19] = [
     "avrora run --plain gates.toml",
     "avrora node gates_loop.hex 3000",
     "avrora monitor gates.toml",
@@ -37,10 +37,14 @@ static ON_ONE: [&str; 15] = [
     "avrora head sweep.toml 1",
     "avrora save sweep.toml 1",
     "avrora look sweep.toml 262144",
+    "avrora look sweep.toml 262144 sweep.state",
     "avrora resume sweep.toml sweep.state",
     "avrora head chain.toml 1 chain_1.state",
     "avrora save chain.toml 1 chain_1.state",
     "avrora sweep sweep.toml sweep.state three.moves",
+    "avrora watch sweep.toml 263144 265144 sweep.places",
+    "avrora watch sweep.toml 263144 265144 sweep.places sweep.state",
+    "avrora watch sweep.toml 263144 265144 sweep.places sweep.state three.moves",
 ];
 
 // How many nodes `make 0` has.
