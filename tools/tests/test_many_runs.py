@@ -187,7 +187,7 @@ def test_the_page_of_a_campaign(tmp_path):
 def test_html_is_of_results_alone(tmp_path):
     (tmp_path / "a.campaign").write_text("[[run]]\nscenario = 'a.toml'\n")
     status, _, err = run_tool("campaign", "--list", "--html", "x.html", str(tmp_path / "a.campaign"))
-    assert status == 2 and "--html is of results" in err
+    assert status == 2 and "--html shows results" in err
 
 
 # ---- sweeps

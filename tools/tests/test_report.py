@@ -352,7 +352,7 @@ def test_bad_words_and_files(tmp_path):
     place = place_of(tmp_path, "packet")
     for words, why in (
         (["--trace", "-"], "read more than once"),
-        (["--lcov", "x.info"], "--lcov wants the program"),
+        (["--lcov", "x.info"], "--lcov needs the program"),
         (["--stacks", "900_000..910_000"], "the run ends in cycle 737,280"),
         (["--stacks", "0..30_000"], "a window has at most 20,000 cycles"),
         (["--findings", str(place / "packet.toml")], "no JSON"),

@@ -118,8 +118,8 @@ def test_what_a_command_writes_moves_no_cursor(tmp_path):
 @pytest.mark.parametrize(
     "words, why",
     [
-        (["a.txt"], "a command is to stand behind --"),
-        (["a.txt", "--"], "a command is to stand behind --"),
+        (["a.txt"], "put a command behind --"),
+        (["a.txt", "--"], "put a command behind --"),
         (["none.txt", "--", "true"], "none.txt: there is no such file"),
         (["--", "true"], "the following arguments are required: FILE"),
     ],

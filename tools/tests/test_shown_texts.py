@@ -237,4 +237,4 @@ def test_entries_that_stand_for_themselves():
 
     unit = variables.Unit(None, frozenset([7]))
     assert unit.attribute(Entry(), "DW_AT_name") is None
-    assert unit.named(Entry()).offset == 7
+    assert unit.behind(Entry(), ("DW_TAG_const_type",)).offset == 7

@@ -229,7 +229,7 @@ def test_bytes_that_are_far_apart_are_stretches_of_their_own():
     [
         (alone(1, 1, 600_000, 610_000), "byte 0 of node 1's input stays in cycle 600,000"),
         (alone(1, 1, 610_000, 620_000), "byte 2 of node 1's input stays in cycle 620,000"),
-        (alone(0, 0, 2_000, 3_000), "none is before cycle 262,144"),
+        (alone(0, 0, 2_000, 3_000), "there is none before cycle 262,144"),
     ],
 )
 def test_a_byte_that_moves_alone_passes_no_other(moved, wrong):

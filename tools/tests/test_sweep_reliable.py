@@ -167,7 +167,7 @@ def test_a_journal_takes_no_other_file(tmp_path, monkeypatch):
     whose = digest({})
     notes = tmp_path / "notes"
     notes.write_bytes(b"a line that does not end")
-    with pytest.raises(BadInput, match="no file of `sweep --resume`"):
+    with pytest.raises(BadInput, match="not a file of `sweep --resume`"):
         Journal(str(notes), whose)
     assert notes.read_bytes() == b"a line that does not end"
     os.link(notes, tmp_path / "other")

@@ -57,7 +57,7 @@ class TestFiles:
         (place / "beside").write_text("b")
         os.symlink(target, "a")
         for path in ("a", f"{place}/a"):
-            with refused("a: a link"):
+            with refused("a: it is a link"):
                 files.write_whole(path, "c")
         assert os.readlink("a") == target and (place / "beside").read_text() == "b"
 
@@ -73,7 +73,7 @@ class TestFiles:
         (place / "sub").mkdir()
         os.symlink("../home", "out")
         os.symlink("../../home", "sub/out")
-        with refused("out: a link"):
+        with refused("out: it is a link"):
             files.write_whole(f"{place}/{path}" if is_absolute else path, "c")
 
     @pytest.mark.parametrize("here", ["far", "/"])
@@ -82,7 +82,7 @@ class TestFiles:
         (tmp_path / "far").mkdir()
         os.symlink("here", tmp_path / "link")
         monkeypatch.chdir(tmp_path / here)
-        with refused("link: a link"):
+        with refused("link: it is a link"):
             files.write_whole(f"{tmp_path}/link/a", "c")
         monkeypatch.setattr(writing, "OF_THE_SYSTEM", ("/", str(tmp_path)))
         files.write_whole(f"{tmp_path}/link/a", "c")
@@ -165,14 +165,14 @@ class TestFolders:
         (place / "a").mkdir()
         os.symlink("../home", "out")
         os.symlink("../../home", "a/out")
-        with Folder.named(".") as folder, refused("out: a link"):
+        with Folder.named(".") as folder, refused("out: it is a link"):
             folder.below(path, make)
-        with refused("out: a link"):
+        with refused("out: it is a link"):
             Folder.named(path, make)
 
     def test_a_link_at_the_end_of_an_absolute_name(self, place):
         os.symlink("home", "../link")
-        with refused("link: a link"):
+        with refused("link: it is a link"):
             Folder.named(f"{place.parent}/link", make=True)
         os.unlink("../link")
 
@@ -193,12 +193,12 @@ class TestFolders:
         with Folder.named(".") as folder:
             for name in ("link", "dangling"):
                 for work in (folder.is_file, folder.lock_file, lambda name: folder.write(name, "c")):
-                    with refused(f"{name}: a link"):
+                    with refused(f"{name}: it is a link"):
                         work(name)
             for work in (folder.is_file, folder.lock_file, lambda name: folder.write(name, "c")):
                 with refused("pipe: no file"):
                     work("pipe")
-            with refused("another name"):
+            with refused("a second name"):
                 folder.is_file("second")
             assert not folder.is_file("none")
             folder.write("plain", "")
