@@ -124,9 +124,10 @@ def test_an_image_that_has_no_end_is_not_waited_for(place, monkeypatch, words):
 )
 def test_golden_traces_are_saved_here_alone(place, name):
     name = name.replace("@", str(place.parent))
+    before = {*os.listdir(place), "a.expect"}
     status, out = expect(place, f"trace relay.trace\ngolden {name}\n", "--save")
     assert status == 2 and ("leads out of" in out or "a link" in out or "no file" in out)
-    assert sorted(os.listdir(place)) == ["a.expect", "dangling", "folder", "link", "pipe", "relay.trace", "second"]
+    assert {*os.listdir(place)} == before
     assert not (place.parent / "b.rows").exists()
 
 

@@ -172,7 +172,7 @@ def test_a_journal_takes_no_other_file(tmp_path, monkeypatch):
     assert notes.read_bytes() == b"a line that does not end"
     os.link(notes, tmp_path / "other")
     notes.write_bytes(b"")
-    with pytest.raises(BadInput, match="another name"):
+    with pytest.raises(BadInput, match="second name"):
         Journal(str(notes), whose)
     os.mkfifo(tmp_path / "pipe")
     with pytest.raises(BadInput, match="no file"):
