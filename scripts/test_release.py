@@ -644,7 +644,7 @@ class Manuals(OfARepository):
         self.assertIn("Intel HEX", about)
         self.assertNotIn("proved", about)
         self.assertIn(".TP\n\\fBrun \\-\\-plain FILE\\fR\nthe same, on one thread\n", main)
-        self.assertRegex(main, r"\.TP\n\\fBwatch .*\\fR\nrun it, and write each change of .* if they are there\n")
+        self.assertRegex(main, r"\.TP\n\\fBwatch .*\\fR\nrun it, and write each change of .* once for each of its lines\n")
         self.assertIn(".TP\n10\nno proved program here, or the processor lacks a feature\n", main)
         self.assertIn(".TP\n\\fBSelfLink\\fR\na link from a node to itself\n", scenario)
         self.assertIn(".TP\nheard: \\fBCYCLE NODE heard STATUS BYTE AGE\\fR\n", trace)
