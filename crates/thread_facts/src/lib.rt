@@ -24,7 +24,8 @@ static APART: [&str; 3] = ["avrora", "run", "gates_apart.toml"];
 
 static MAKE: [&str; 3] = ["avrora", "make", "0"];
 
-// All that is done on one thread, one space between words, of which a call has eight at most, with the program's name.
+// Each form of a call but `run FILE` and `make NUMBER`: it is done on one thread. One space stands between words, of which
+// there are eight at most, with the program's name.
 static ON_ONE: [&str; 19] = [
     "avrora run --plain gates.toml",
     "avrora node gates_loop.hex 3000",
