@@ -162,9 +162,9 @@ over "monitor, a cycle" 80000 278 "$(($(spanned monitor 100000) - h))"
 seq 256 319 | xargs printf '0 byte %04X\n' >"$work/bytes"
 h=$(spanned watch 2000 bytes)
 over "watch of 64 bytes, a cycle" 10000 529 "$(($(spanned watch 12000 bytes) - h))"
-seq 32768 32831 | xargs printf '0 at %04X\n' >"$work/addresses"
-h=$(spanned watch 2000 addresses)
-over "watch of 64 instructions, a cycle" 10000 1089 "$(($(spanned watch 12000 addresses) - h))"
+{ head -n 1 "$work/bytes" && seq 32768 32831 | xargs printf '0 at %04X\n'; } >"$work/mixed"
+h=$(spanned watch 2000 mixed)
+over "watch of a byte and 64 instructions, a cycle" 10000 535 "$(($(spanned watch 12000 mixed) - h))"
 
 printf 'ldi r16, 0x20\nout 0x35, r16\nagain:\nsleep\nrjmp again\n' >"$work/probe.s"
 "$program" asm "$work/probe.s" >"$work/probe.hex"
