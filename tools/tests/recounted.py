@@ -148,7 +148,7 @@ def coverage(facts: Facts, draw: random.Random) -> list[str]:
     out = facts.told("profile", "--coverage", "-s", facts.toml, "-e", facts.elf, facts.trace)
     told = {name: (int(ran), int(of)) for ran, of, name in re.findall(r"(?m)^ *(\d+) +(\d+) +\d+  (\S+)$", out)}
     ran = {word for _, kind, word, _ in facts.rows if kind == "instr"}
-    listed = subprocess.run(["avr-objdump", "-d", facts.elf], capture_output=True, text=True, check=True).stdout
+    listed = subprocess.run(["avr-objdump", "-dz", facts.elf], capture_output=True, text=True, check=True).stdout
     words = {int(at, 16) // 2 for at in re.findall(r"(?m)^ *([0-9a-f]+):\t", listed)}
     found = []
     for first, end, name in facts.functions:
