@@ -39,8 +39,8 @@ TOP = Path(__file__).resolve().parent.parent
 MOST_BYTES = {
     "README.md": 9000,
     "SECURITY.md": 6000,
-    "docs/PROOFS.md": 17600,
-    "docs/SPEED.md": 8000,
+    "docs/PROOFS.md": 17000,
+    "docs/SPEED.md": 7000,
     "docs/RELEASE.md": 5000,
     "docs/PROVING.md": 27000,
     "docs/DECISIONS.md": 22000,

@@ -1,9 +1,9 @@
 //! Networks with each node on a thread of its own, beside gates that hold a node until another one has come far enough:
 //! so the stored run shows that all nodes are under way at once, that a node waits at a sample, and that one which
 //! waits for nobody goes ahead; or that refuse threads, so that it shows that nodes without one take turns; or that are
-//! never to be told a turn, as by all words but those of `run FILE` and `make NUMBER`. A body on one thread, one that does not wait, one in lockstep and one that leaves a refused node, or all others, behind each
-//! fail one of them, and the first that fails is the last. The whole program is run, but for `main`. `command_facts`
-//! runs it.
+//! never to be told a turn, as by all words but those of `run FILE` and `make NUMBER`. A body on one thread, one that
+//! does not wait, one in lockstep and one that leaves a refused node, or all others, behind each fail one of them, and
+//! the first that fails is the last. The whole program is run, but for `main`. `command_facts` runs it.
 #![tactic(auto)]
 
 mod gates;
@@ -24,7 +24,8 @@ static APART: [&str; 3] = ["avrora", "run", "gates_apart.toml"];
 
 static MAKE: [&str; 3] = ["avrora", "make", "0"];
 
-// All that is done on one thread, one space between words, of which a call has eight at most, with the program's name.
+// Each form of a call but `run FILE` and `make NUMBER`: it is done on one thread. One space stands between words, of
+// which there are eight at most, with the program's name.
 static ON_ONE: [&str; 19] = [
     "avrora run --plain gates.toml",
     "avrora node gates_loop.hex 3000",
