@@ -24,6 +24,7 @@ use Rattle.command_plans.specs.declared.trouble.ScenarioCause.TheVariants as sce
 use Rattle.command_plans.specs.declared.trouble.SourceCause.TheVariants as source_cause
 use Rattle.command_plans.specs.declared.trouble.MovesCause.TheVariants as moves_cause
 use Rattle.command_plans.specs.declared.trouble.PlacesCause.TheVariants as places_cause
+use Rattle.command_plans.specs.declared.files.TheConstants.{MOST_IMAGE_BYTES, MOST_MOVES_BYTES, MOST_PLACES_BYTES, MOST_SCENARIO_BYTES, MOST_SOURCE_BYTES}
 
 -- one reading after another
 pub both : {A : Type 0} (files : Files) (p q r : Plan A) → Reached files p q → Reached files q r → Reached files p r
@@ -95,59 +96,59 @@ pub read_stopped : {A : Type 0} (files : Files) (name : List ℕ) (most : ℕ) (
 unfolding and_then
 read_stopped files name most too_long next store store' end h = stops_behind files (Read name most too_long Give) next store store' end h
 
-pub image_accepted : (files : Files) (name bytes : List ℕ) (flash : Image) → Reached files (Read name 1048576 (BadImage name cause.TooLong) Give) (Give bytes)
+pub image_accepted : (files : Files) (name bytes : List ℕ) (flash : Image) → Reached files (Read name MOST_IMAGE_BYTES (BadImage name cause.TooLong) Give) (Give bytes)
     → hex_fault bytes ≡ None → flash ≡ image bytes → Reached files (image_plan name) (Give flash)
 image_accepted files name bytes flash read e f =
-    opened files name 1048576 (BadImage name cause.TooLong) bytes (Give flash) read _ (rw (e, f) (Here (Give (image bytes))))
+    opened files name MOST_IMAGE_BYTES (BadImage name cause.TooLong) bytes (Give flash) read _ (rw (e, f) (Here (Give (image bytes))))
 
-pub image_refused : (files : Files) (name bytes : List ℕ) (fault : HexFault) → Reached files (Read name 1048576 (BadImage name cause.TooLong) Give) (Give bytes)
+pub image_refused : (files : Files) (name bytes : List ℕ) (fault : HexFault) → Reached files (Read name MOST_IMAGE_BYTES (BadImage name cause.TooLong) Give) (Give bytes)
     → hex_fault bytes ≡ Some fault → Reached files (image_plan name) (Refuse (BadImage name (cause.Faulty fault)))
 image_refused files name bytes fault read e =
-    opened files name 1048576 (BadImage name cause.TooLong) bytes (Refuse (BadImage name (cause.Faulty fault))) read _
+    opened files name MOST_IMAGE_BYTES (BadImage name cause.TooLong) bytes (Refuse (BadImage name (cause.Faulty fault))) read _
     (rw e (Here (Refuse (BadImage name (cause.Faulty fault)))))
 
-pub scenario_accepted : (files : Files) (name bytes : List ℕ) (parts : ScenarioParts) → Reached files (Read name 524288 (BadScenario name scenario_cause.TooLong) Give) (Give bytes)
+pub scenario_accepted : (files : Files) (name bytes : List ℕ) (parts : ScenarioParts) → Reached files (Read name MOST_SCENARIO_BYTES (BadScenario name scenario_cause.TooLong) Give) (Give bytes)
     → scenario_in bytes ≡ Ok parts → Reached files (scenario_plan name) (Give parts)
 scenario_accepted files name bytes parts read e =
-    opened files name 524288 (BadScenario name scenario_cause.TooLong) bytes (Give parts) read _ (rw e (Here (Give parts)))
+    opened files name MOST_SCENARIO_BYTES (BadScenario name scenario_cause.TooLong) bytes (Give parts) read _ (rw e (Here (Give parts)))
 
-pub scenario_refused : (files : Files) (name bytes : List ℕ) (fault : ScenarioFault) → Reached files (Read name 524288 (BadScenario name scenario_cause.TooLong) Give) (Give bytes)
+pub scenario_refused : (files : Files) (name bytes : List ℕ) (fault : ScenarioFault) → Reached files (Read name MOST_SCENARIO_BYTES (BadScenario name scenario_cause.TooLong) Give) (Give bytes)
     → scenario_in bytes ≡ Err fault → Reached files (scenario_plan name) (Refuse (BadScenario name (scenario_cause.Faulty fault)))
 scenario_refused files name bytes fault read e =
-    opened files name 524288 (BadScenario name scenario_cause.TooLong) bytes (Refuse (BadScenario name (scenario_cause.Faulty fault))) read _
+    opened files name MOST_SCENARIO_BYTES (BadScenario name scenario_cause.TooLong) bytes (Refuse (BadScenario name (scenario_cause.Faulty fault))) read _
     (rw e (Here (Refuse (BadScenario name (scenario_cause.Faulty fault)))))
 
-pub source_accepted : (files : Files) (name bytes words : List ℕ) → Reached files (Read name 1048576 (BadSource name source_cause.TooLong) Give) (Give bytes)
+pub source_accepted : (files : Files) (name bytes words : List ℕ) → Reached files (Read name MOST_SOURCE_BYTES (BadSource name source_cause.TooLong) Give) (Give bytes)
     → assembled bytes ≡ Ok words → Reached files (source_plan name) (Give words)
 source_accepted files name bytes words read e =
-    opened files name 1048576 (BadSource name source_cause.TooLong) bytes (Give words) read _ (rw e (Here (Give words)))
+    opened files name MOST_SOURCE_BYTES (BadSource name source_cause.TooLong) bytes (Give words) read _ (rw e (Here (Give words)))
 
-pub source_refused : (files : Files) (name bytes : List ℕ) (fault : AsmFault) → Reached files (Read name 1048576 (BadSource name source_cause.TooLong) Give) (Give bytes)
+pub source_refused : (files : Files) (name bytes : List ℕ) (fault : AsmFault) → Reached files (Read name MOST_SOURCE_BYTES (BadSource name source_cause.TooLong) Give) (Give bytes)
     → assembled bytes ≡ Err fault → Reached files (source_plan name) (Refuse (BadSource name (source_cause.Faulty fault)))
 source_refused files name bytes fault read e =
-    opened files name 1048576 (BadSource name source_cause.TooLong) bytes (Refuse (BadSource name (source_cause.Faulty fault))) read _
+    opened files name MOST_SOURCE_BYTES (BadSource name source_cause.TooLong) bytes (Refuse (BadSource name (source_cause.Faulty fault))) read _
     (rw e (Here (Refuse (BadSource name (source_cause.Faulty fault)))))
 
-pub moves_accepted : (files : Files) (nodes : ℕ) (name bytes : List ℕ) (moves : List MoveOf) → Reached files (Read name 4194304 (BadMoves name moves_cause.TooLong) Give) (Give bytes)
+pub moves_accepted : (files : Files) (nodes : ℕ) (name bytes : List ℕ) (moves : List MoveOf) → Reached files (Read name MOST_MOVES_BYTES (BadMoves name moves_cause.TooLong) Give) (Give bytes)
     → moves_in nodes bytes ≡ Ok moves → Reached files (moves_plan nodes name) (Give moves)
 moves_accepted files nodes name bytes moves read e =
-    opened files name 4194304 (BadMoves name moves_cause.TooLong) bytes (Give moves) read (λ b. moves_or name (moves_in nodes b)) (rw e (Here (Give moves)))
+    opened files name MOST_MOVES_BYTES (BadMoves name moves_cause.TooLong) bytes (Give moves) read (λ b. moves_or name (moves_in nodes b)) (rw e (Here (Give moves)))
 
-pub moves_refused : (files : Files) (nodes : ℕ) (name bytes : List ℕ) (fault : MovesFault) → Reached files (Read name 4194304 (BadMoves name moves_cause.TooLong) Give) (Give bytes)
+pub moves_refused : (files : Files) (nodes : ℕ) (name bytes : List ℕ) (fault : MovesFault) → Reached files (Read name MOST_MOVES_BYTES (BadMoves name moves_cause.TooLong) Give) (Give bytes)
     → moves_in nodes bytes ≡ Err fault → Reached files (moves_plan nodes name) (Refuse (BadMoves name (moves_cause.Faulty fault)))
 moves_refused files nodes name bytes fault read e =
-    opened files name 4194304 (BadMoves name moves_cause.TooLong) bytes (Refuse (BadMoves name (moves_cause.Faulty fault))) read (λ b. moves_or name (moves_in nodes b))
+    opened files name MOST_MOVES_BYTES (BadMoves name moves_cause.TooLong) bytes (Refuse (BadMoves name (moves_cause.Faulty fault))) read (λ b. moves_or name (moves_in nodes b))
     (rw e (Here (Refuse (BadMoves name (moves_cause.Faulty fault)))))
 
-pub places_accepted : (files : Files) (nodes : ℕ) (name bytes : List ℕ) (places : List Place) → Reached files (Read name 131072 (BadPlaces name places_cause.TooLong) Give) (Give bytes)
+pub places_accepted : (files : Files) (nodes : ℕ) (name bytes : List ℕ) (places : List Place) → Reached files (Read name MOST_PLACES_BYTES (BadPlaces name places_cause.TooLong) Give) (Give bytes)
     → places_in nodes bytes ≡ Ok places → Reached files (places_plan nodes name) (Give places)
 places_accepted files nodes name bytes places read e =
-    opened files name 131072 (BadPlaces name places_cause.TooLong) bytes (Give places) read (λ b. places_or name (places_in nodes b)) (rw e (Here (Give places)))
+    opened files name MOST_PLACES_BYTES (BadPlaces name places_cause.TooLong) bytes (Give places) read (λ b. places_or name (places_in nodes b)) (rw e (Here (Give places)))
 
-pub places_refused : (files : Files) (nodes : ℕ) (name bytes : List ℕ) (fault : PlacesFault) → Reached files (Read name 131072 (BadPlaces name places_cause.TooLong) Give) (Give bytes)
+pub places_refused : (files : Files) (nodes : ℕ) (name bytes : List ℕ) (fault : PlacesFault) → Reached files (Read name MOST_PLACES_BYTES (BadPlaces name places_cause.TooLong) Give) (Give bytes)
     → places_in nodes bytes ≡ Err fault → Reached files (places_plan nodes name) (Refuse (BadPlaces name (places_cause.Faulty fault)))
 places_refused files nodes name bytes fault read e =
-    opened files name 131072 (BadPlaces name places_cause.TooLong) bytes (Refuse (BadPlaces name (places_cause.Faulty fault))) read (λ b. places_or name (places_in nodes b))
+    opened files name MOST_PLACES_BYTES (BadPlaces name places_cause.TooLong) bytes (Refuse (BadPlaces name (places_cause.Faulty fault))) read (λ b. places_or name (places_in nodes b))
     (rw e (Here (Refuse (BadPlaces name (places_cause.Faulty fault)))))
 
 -- ---- the images of a network

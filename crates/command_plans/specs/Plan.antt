@@ -23,6 +23,7 @@ use Rattle.command_plans.specs.declared.trouble.MovesCause.{MovesCause}
 use Rattle.command_plans.specs.declared.trouble.MovesCause.TheVariants as moves_cause
 use Rattle.command_plans.specs.declared.trouble.PlacesCause.{PlacesCause}
 use Rattle.command_plans.specs.declared.trouble.PlacesCause.TheVariants as places_cause
+use Rattle.command_plans.specs.declared.files.TheConstants.{MOST_IMAGE_BYTES, MOST_MOVES_BYTES, MOST_PLACES_BYTES, MOST_SCENARIO_BYTES, MOST_SOURCE_BYTES}
 
 -- why a call is refused
 pub data Refusal : Type 0 where
@@ -61,7 +62,7 @@ image_or name None flash = Give flash
 
 -- read an image, of at most 1,048,576 bytes of text, for its flash
 abbrev pub image_plan : List ℕ → Plan Image
-image_plan name = Read name 1048576 (BadImage name cause.TooLong) (λ bytes. image_or name (hex_fault bytes) (image bytes))
+image_plan name = Read name MOST_IMAGE_BYTES (BadImage name cause.TooLong) (λ bytes. image_or name (hex_fault bytes) (image bytes))
 
 -- the images that were read, and behind them those of these files in their order, each accepted before the next is read
 unfoldable pub images_behind : List Image → List (List ℕ) → Plan (List Image)
@@ -79,7 +80,7 @@ scenario_or name (Err fault) = Refuse (BadScenario name (scenario_cause.Faulty f
 
 -- read a scenario, of at most 524,288 bytes of text, for what it says
 abbrev pub scenario_plan : List ℕ → Plan ScenarioParts
-scenario_plan name = Read name 524288 (BadScenario name scenario_cause.TooLong) (λ bytes. scenario_or name (scenario_in bytes))
+scenario_plan name = Read name MOST_SCENARIO_BYTES (BadScenario name scenario_cause.TooLong) (λ bytes. scenario_or name (scenario_in bytes))
 
 -- a source is accepted where nothing is wrong with its text
 abbrev pub source_or : List ℕ → Result (List ℕ) AsmFault → Plan (List ℕ)
@@ -88,7 +89,7 @@ source_or name (Err fault) = Refuse (BadSource name (source_cause.Faulty fault))
 
 -- read a source in assembly, of at most 1,048,576 bytes of text, for the words of its program
 abbrev pub source_plan : List ℕ → Plan (List ℕ)
-source_plan name = Read name 1048576 (BadSource name source_cause.TooLong) (λ bytes. source_or name (assembled bytes))
+source_plan name = Read name MOST_SOURCE_BYTES (BadSource name source_cause.TooLong) (λ bytes. source_or name (assembled bytes))
 
 -- moves are accepted where nothing is wrong with their text
 abbrev pub moves_or : List ℕ → Result (List MoveOf) MovesFault → Plan (List MoveOf)
@@ -97,7 +98,7 @@ moves_or name (Err fault) = Refuse (BadMoves name (moves_cause.Faulty fault))
 
 -- read the moves of a sweep of so many nodes, of at most 4,194,304 bytes of text
 abbrev pub moves_plan : ℕ → List ℕ → Plan (List MoveOf)
-moves_plan nodes name = Read name 4194304 (BadMoves name moves_cause.TooLong) (λ bytes. moves_or name (moves_in nodes bytes))
+moves_plan nodes name = Read name MOST_MOVES_BYTES (BadMoves name moves_cause.TooLong) (λ bytes. moves_or name (moves_in nodes bytes))
 
 -- places are accepted where nothing is wrong with their text
 abbrev pub places_or : List ℕ → Result (List Place) PlacesFault → Plan (List Place)
@@ -106,4 +107,4 @@ places_or name (Err fault) = Refuse (BadPlaces name (places_cause.Faulty fault))
 
 -- read the places of a network of so many nodes, of at most 131,072 bytes of text
 abbrev pub places_plan : ℕ → List ℕ → Plan (List Place)
-places_plan nodes name = Read name 131072 (BadPlaces name places_cause.TooLong) (λ bytes. places_or name (places_in nodes bytes))
+places_plan nodes name = Read name MOST_PLACES_BYTES (BadPlaces name places_cause.TooLong) (λ bytes. places_or name (places_in nodes bytes))

@@ -21,20 +21,23 @@ use scenario_file::{ScenarioFault, ScenarioText};
 use sim_io::{Name, ReadFault, Store};
 use std::alloc::Global;
 
-// The most bytes of an image's text.
-const MOST_IMAGE_BYTES: usize = 1_048_576;
+/// The most bytes of an image's text.
+pub const MOST_IMAGE_BYTES: usize = 1_048_576;
 
-// The most bytes of a scenario's text.
-const MOST_SCENARIO_BYTES: usize = 524_288;
+/// The most bytes of a scenario's text.
+pub const MOST_SCENARIO_BYTES: usize = 524_288;
 
-// The most bytes of a source's text.
-const MOST_SOURCE_BYTES: usize = 1_048_576;
+/// The most bytes of a source's text.
+pub const MOST_SOURCE_BYTES: usize = 1_048_576;
 
-// The most bytes of the text of a sweep's moves.
-const MOST_MOVES_BYTES: usize = 4_194_304;
+/// The most bytes of the text of a sweep's moves.
+pub const MOST_MOVES_BYTES: usize = 4_194_304;
 
-// The most bytes of the text of places: more than as many lines as it may have can have.
-const MOST_PLACES_BYTES: usize = 131_072;
+/// The most bytes of a state's text.
+pub const MOST_STATE_BYTES: usize = 4_194_304;
+
+/// The most bytes of the text of places: more than as many lines as it may have can have.
+pub const MOST_PLACES_BYTES: usize = 131_072;
 
 /// The bytes of the file `name`, at most `most`; a longer one is refused as `too_long` says.
 pub fn read_file<'n, S: Store>(

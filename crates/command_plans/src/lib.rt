@@ -9,7 +9,8 @@ mod status;
 mod trouble;
 
 pub use files::{
-    read_file, read_image, read_images, read_moves, read_places, read_scenario, read_source,
+    MOST_STATE_BYTES, read_file, read_image, read_images, read_moves, read_places, read_scenario,
+    read_source,
 };
 pub use reports::{report, tell};
 pub use status::Status;

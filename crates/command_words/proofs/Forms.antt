@@ -8,6 +8,8 @@ use Rattle.air_base.specs.Bounds.{LAST_CYCLE}
 use Rattle.command_words.specs.declared.command.Command.{Command}
 use Rattle.command_words.specs.Words.{Asked, Node, Run, RunPlain, Monitor, Sniff, Check, Disasm, Asm, Make, Head, Save, Resume, HeadOn, SaveOn, MonitorSpan, Sweep, Look, LookOn, Watch, WatchOn, WatchSweep, as_make, as_plain_run, as_resume, as_span, as_sweep, as_watch, as_watch_on, as_watch_sweep, asked_by, cycles_of, epochs_of, bound_of, file_behind, in_order, is_file, is_word, or_else, sample_of, shown, span_of, with_number, with_state, IsInLimits}
 use Rattle.command_words.proofs.Numerals.{number_limits}
+use Rattle.air_base.specs.declared.bounds.TheConstants.{LAST_SHORT_CYCLE}
+use Rattle.command_words.specs.declared.operands.TheConstants.{MOST_EPOCHS}
 
 -- the two numbers of a span
 pub record Span (from to : List ℕ) (a b : ℕ) : Type 0 where
@@ -334,7 +336,7 @@ span_limits from to a b s =
     (grind (arith, nat_tests), (number_limits 13 0 LAST_CYCLE to b s.to_is).1)
 
 pub in_limits : (words : List (List ℕ)) (asked : Asked) → Form words asked → IsInLimits asked
-in_limits _ _ (IsNode file cycles n f e) = number_limits 8 1 10000000 cycles n e
+in_limits _ _ (IsNode file cycles n f e) = number_limits 8 1 LAST_SHORT_CYCLE cycles n e
 in_limits _ _ (IsRun file f) = tt
 in_limits _ _ (IsPlainRun file f) = tt
 in_limits _ _ (IsMonitor file f) = tt
@@ -343,11 +345,11 @@ in_limits _ _ (IsCheck file f) = tt
 in_limits _ _ (IsDisasm file f) = tt
 in_limits _ _ (IsAsm file f) = tt
 in_limits _ _ (IsMake number n e) = (number_limits 5 0 65535 number n e).1
-in_limits _ _ (IsHead file epochs n f e) = number_limits 7 1 9999999 epochs n e
-in_limits _ _ (IsSave file epochs n f e) = number_limits 7 1 9999999 epochs n e
+in_limits _ _ (IsHead file epochs n f e) = number_limits 7 1 MOST_EPOCHS epochs n e
+in_limits _ _ (IsSave file epochs n f e) = number_limits 7 1 MOST_EPOCHS epochs n e
 in_limits _ _ (IsResume file state f g) = tt
-in_limits _ _ (IsHeadOn file epochs state n f e g) = number_limits 7 1 9999999 epochs n e
-in_limits _ _ (IsSaveOn file epochs state n f e g) = number_limits 7 1 9999999 epochs n e
+in_limits _ _ (IsHeadOn file epochs state n f e g) = number_limits 7 1 MOST_EPOCHS epochs n e
+in_limits _ _ (IsSaveOn file epochs state n f e g) = number_limits 7 1 MOST_EPOCHS epochs n e
 in_limits _ _ (IsMonitorSpan file from to a b f s) = span_limits from to a b s
 in_limits _ _ (IsSweep file state moves f g h) = tt
 in_limits _ _ (IsLook file cycle n f e) = (number_limits 13 0 LAST_CYCLE cycle n e).1

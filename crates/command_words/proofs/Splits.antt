@@ -12,6 +12,8 @@ use Rattle.command_words.specs.Split.{asked_in, asked_of, cut_in, from_in, read_
 use Rattle.command_words.proofs.Numerals.{number_file}
 use Rattle.command_words.proofs.Positionals.{Level, Plain, held_at, no_more, one_more, standing, watch_entered, watch_shape, watch_taken}
 use Rattle.command_words.proofs.Forms.{Form, Span, IsNode, IsRun, IsPlainRun, IsMonitor, IsSniff, IsCheck, IsDisasm, IsAsm, IsMake, IsHead, IsSave, IsResume, IsHeadOn, IsSaveOn, IsMonitorSpan, IsSweep, IsLook, IsLookOn, IsWatch, IsWatchOn, IsWatchSweep, form_of}
+use Rattle.air_base.specs.declared.bounds.TheConstants.{LAST_SHORT_CYCLE}
+use Rattle.command_words.specs.declared.operands.TheConstants.{MOST_EPOCHS}
 
 not_false : (b : Bool) → not b ≡ true → b ≡ false
 not_false true h = absurd (cc)
@@ -79,7 +81,7 @@ pub taken : (words : List (List ℕ)) (asked : Asked) → Form words asked → t
 unfolding clap_on_literals
 taken _ _ (IsNode file cycles n f e) =
     let a = plain_file file f in
-    let b = plain_file cycles (number_file 8 1 10000000 cycles n e) in
+    let b = plain_file cycles (number_file 8 1 LAST_SHORT_CYCLE cycles n e) in
     simp (a.short, a.long, b.short, b.long) (refl {a = true})
 taken _ _ (IsRun file f) = let a = plain_file file f in simp (a.short, a.long) (refl {a = true})
 taken _ _ (IsPlainRun file f) = let a = plain_file file f in simp (a.short, a.long) (refl {a = true})
@@ -91,11 +93,11 @@ taken _ _ (IsAsm file f) = let a = plain_file file f in simp (a.short, a.long) (
 taken _ _ (IsMake number n e) = let a = plain_file number (number_file 5 0 65535 number n e) in simp (a.short, a.long) (refl {a = true})
 taken _ _ (IsHead file epochs n f e) =
     let a = plain_file file f in
-    let b = plain_file epochs (number_file 7 1 9999999 epochs n e) in
+    let b = plain_file epochs (number_file 7 1 MOST_EPOCHS epochs n e) in
     simp (a.short, a.long, b.short, b.long) (refl {a = true})
 taken _ _ (IsSave file epochs n f e) =
     let a = plain_file file f in
-    let b = plain_file epochs (number_file 7 1 9999999 epochs n e) in
+    let b = plain_file epochs (number_file 7 1 MOST_EPOCHS epochs n e) in
     simp (a.short, a.long, b.short, b.long) (refl {a = true})
 taken _ _ (IsResume file state f g) =
     let a = plain_file file f in
@@ -103,12 +105,12 @@ taken _ _ (IsResume file state f g) =
     simp (a.short, a.long, b.short, b.long) (refl {a = true})
 taken _ _ (IsHeadOn file epochs state n f e g) =
     let a = plain_file file f in
-    let b = plain_file epochs (number_file 7 1 9999999 epochs n e) in
+    let b = plain_file epochs (number_file 7 1 MOST_EPOCHS epochs n e) in
     let c = plain_file state g in
     simp (a.short, a.long, b.short, b.long, c.short, c.long) (refl {a = true})
 taken _ _ (IsSaveOn file epochs state n f e g) =
     let a = plain_file file f in
-    let b = plain_file epochs (number_file 7 1 9999999 epochs n e) in
+    let b = plain_file epochs (number_file 7 1 MOST_EPOCHS epochs n e) in
     let c = plain_file state g in
     simp (a.short, a.long, b.short, b.long, c.short, c.long) (refl {a = true})
 taken _ _ (IsMonitorSpan file from to m n f s) =
@@ -142,7 +144,7 @@ pub kept : (words : List (List ℕ)) (asked : Asked) → Form words asked → as
 unfolding clap_on_literals asked_of asked_in seeing_in read_in cut_in
 kept _ _ (IsNode file cycles n f e) =
     let a = plain_file file f in
-    let b = plain_file cycles (number_file 8 1 10000000 cycles n e) in
+    let b = plain_file cycles (number_file 8 1 LAST_SHORT_CYCLE cycles n e) in
     simp (a.short, a.long, b.short, b.long, e) (refl {a = Some (Node file n)})
 kept _ _ (IsRun file f) = let a = plain_file file f in simp (a.short, a.long) (refl {a = Some (Run file)})
 kept _ _ (IsPlainRun file f) = let a = plain_file file f in simp (a.short, a.long) (refl {a = Some (RunPlain file)})
@@ -154,11 +156,11 @@ kept _ _ (IsAsm file f) = let a = plain_file file f in simp (a.short, a.long) (r
 kept _ _ (IsMake number n e) = let a = plain_file number (number_file 5 0 65535 number n e) in simp (a.short, a.long, e) (refl {a = Some (Make n)})
 kept _ _ (IsHead file epochs n f e) =
     let a = plain_file file f in
-    let b = plain_file epochs (number_file 7 1 9999999 epochs n e) in
+    let b = plain_file epochs (number_file 7 1 MOST_EPOCHS epochs n e) in
     simp (a.short, a.long, b.short, b.long, e) (refl {a = Some (Head file n)})
 kept _ _ (IsSave file epochs n f e) =
     let a = plain_file file f in
-    let b = plain_file epochs (number_file 7 1 9999999 epochs n e) in
+    let b = plain_file epochs (number_file 7 1 MOST_EPOCHS epochs n e) in
     simp (a.short, a.long, b.short, b.long, e) (refl {a = Some (Save file n)})
 kept _ _ (IsResume file state f g) =
     let a = plain_file file f in
@@ -166,13 +168,13 @@ kept _ _ (IsResume file state f g) =
     simp (a.short, a.long, b.short, b.long) (refl {a = Some (Resume file state)})
 kept _ _ (IsHeadOn file epochs state n f e g) =
     let a = plain_file file f in
-    let b = plain_file epochs (number_file 7 1 9999999 epochs n e) in
+    let b = plain_file epochs (number_file 7 1 MOST_EPOCHS epochs n e) in
     let c = plain_file state g in
     let asked : option_map (from_in Head HeadOn file (Some state)) (epochs_of epochs) ≡ Some (HeadOn file n state) = ap (option_map (from_in Head HeadOn file (Some state))) e in
     simp (a.short, a.long, b.short, b.long, c.short, c.long) asked
 kept _ _ (IsSaveOn file epochs state n f e g) =
     let a = plain_file file f in
-    let b = plain_file epochs (number_file 7 1 9999999 epochs n e) in
+    let b = plain_file epochs (number_file 7 1 MOST_EPOCHS epochs n e) in
     let c = plain_file state g in
     let asked : option_map (from_in Save SaveOn file (Some state)) (epochs_of epochs) ≡ Some (SaveOn file n state) = ap (option_map (from_in Save SaveOn file (Some state))) e in
     simp (a.short, a.long, b.short, b.long, c.short, c.long) asked

@@ -1,12 +1,14 @@
 -- The command line: which lists of words are accepted, and what each asks for (this program's own usage).
 use Rattle.std.specs.Prelude.{ℕ, ◌≤◌, ◌==◌, ◌&&◌, nat_le, not, Bool, false, if◌then◌else◌, List, [], ◌∷◌, length, codes, Option, Some, None, option_map}
 use Rattle.air_base.specs.Bounds.{LAST_CYCLE}
+use Rattle.air_base.specs.declared.bounds.TheConstants.{LAST_SHORT_CYCLE}
 use Rattle.std.specs.Char.{is_ascii_digit}
 use Rattle.std.specs.List.{list_all}
 use Rattle.std.specs.Str.Parse.{digits_value}
 use Rattle.std.specs.Cmp.Lexicographic.{pointwise}
 use Rattle.command_words.specs.declared.command.Command.{Command}
 use Rattle.command_words.specs.declared.command.Command.TheVariants as variant
+use Rattle.command_words.specs.declared.operands.TheConstants.{MOST_EPOCHS}
 
 -- what an accepted list of words asks for: a constructor for each form
 pub data Asked : Type 0 where
@@ -98,15 +100,15 @@ number_of digits least most word =
 
 -- CYCLES: one to eight decimal digits that write a number from 1 to 10,000,000
 abbrev pub cycles_of : List ℕ → Option ℕ
-cycles_of word = number_of 8 1 10000000 word
+cycles_of word = number_of 8 1 LAST_SHORT_CYCLE word
 
 -- NUMBER: one to five decimal digits that write a number of at most 65,535
 abbrev pub sample_of : List ℕ → Option ℕ
 sample_of word = number_of 5 0 65535 word
 
--- N: one to seven decimal digits that write a number from 1 on
+-- N: one to seven decimal digits that write a number from 1 on, at most 9,999,999
 abbrev pub epochs_of : List ℕ → Option ℕ
-epochs_of word = number_of 7 1 9999999 word
+epochs_of word = number_of 7 1 MOST_EPOCHS word
 
 -- CYCLE, FROM, or TO: one to thirteen decimal digits that write a cycle of at most 1,099,511,627,776
 abbrev pub bound_of : List ℕ → Option ℕ
@@ -224,7 +226,7 @@ asked_by words =
 -- from 1 to 9,999,999, a cycle that is looked at at most 1,099,511,627,776, and a span ends not before it begins and at
 -- most at 1,099,511,627,776
 abbrev pub IsInLimits : Asked → Type 0
-IsInLimits (Node file cycles) = (1 ≤ cycles) × (cycles ≤ 10000000)
+IsInLimits (Node file cycles) = (1 ≤ cycles) × (cycles ≤ LAST_SHORT_CYCLE)
 IsInLimits (Run file) = Unit {0}
 IsInLimits (RunPlain file) = Unit {0}
 IsInLimits (Monitor file) = Unit {0}
@@ -233,11 +235,11 @@ IsInLimits (Check file) = Unit {0}
 IsInLimits (Disasm file) = Unit {0}
 IsInLimits (Asm file) = Unit {0}
 IsInLimits (Make number) = number ≤ 65535
-IsInLimits (Head file epochs) = (1 ≤ epochs) × (epochs ≤ 9999999)
-IsInLimits (Save file epochs) = (1 ≤ epochs) × (epochs ≤ 9999999)
+IsInLimits (Head file epochs) = (1 ≤ epochs) × (epochs ≤ MOST_EPOCHS)
+IsInLimits (Save file epochs) = (1 ≤ epochs) × (epochs ≤ MOST_EPOCHS)
 IsInLimits (Resume file state) = Unit {0}
-IsInLimits (HeadOn file epochs state) = (1 ≤ epochs) × (epochs ≤ 9999999)
-IsInLimits (SaveOn file epochs state) = (1 ≤ epochs) × (epochs ≤ 9999999)
+IsInLimits (HeadOn file epochs state) = (1 ≤ epochs) × (epochs ≤ MOST_EPOCHS)
+IsInLimits (SaveOn file epochs state) = (1 ≤ epochs) × (epochs ≤ MOST_EPOCHS)
 IsInLimits (MonitorSpan file from to) = (from ≤ to) × (to ≤ LAST_CYCLE)
 IsInLimits (Sweep file state moves) = Unit {0}
 IsInLimits (Look file cycle) = cycle ≤ LAST_CYCLE

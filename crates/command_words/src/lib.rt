@@ -11,5 +11,6 @@ mod splitting;
 mod words;
 
 pub use command::Command;
+pub use operands::MOST_EPOCHS;
 pub use splitting::read_words;
 pub use words::words_given;

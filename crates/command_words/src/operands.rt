@@ -1,11 +1,15 @@
 // What stands behind the name of a command: files and numbers.
 ghost use Rattle.std.specs.Prelude.{◌≡◌, ◌≤◌, IfSome};
 ghost use Rattle.air_base.specs.Bounds.{LAST_CYCLE};
+ghost use Rattle.air_base.specs.declared.bounds.TheConstants.{LAST_SHORT_CYCLE};
 ghost use Rattle.std.specs.Char.{is_ascii_digit};
 ghost use Rattle.std.specs.List.{list_all};
 ghost use Rattle.command_words.specs.Words.{bound_of, cycles_of, epochs_of, is_file, number_of, sample_of, span_of};
 
-use air_base::LAST_CYCLE;
+use air_base::{LAST_CYCLE, LAST_SHORT_CYCLE};
+
+/// The most epochs that a call names.
+pub const MOST_EPOCHS: u64 = 9_999_999;
 
 /// Whether a word names a file: it is not empty, and no option.
 pub fn is_file(word: &str) -> bool
@@ -44,19 +48,19 @@ fn number(word: &str, digits: usize, least: u64, most: u64) -> Option<u64>
     }
 }
 
-/// The number of cycles that a word gives: one to eight decimal digits, no sign, from 1 to 10,000,000.
+/// The number of cycles that a word gives: one to eight decimal digits, no sign, from 1 to `LAST_SHORT_CYCLE`.
 pub fn cycles(word: &str) -> Option<u64>
     ensures value { result ≡ cycles_of word.now }
-    ensures limits { IfSome result (λ n. (1 ≤ n) × (n ≤ 10000000)) }
+    ensures limits { IfSome result (λ n. (1 ≤ n) × (n ≤ LAST_SHORT_CYCLE)) }
 {
-    number(word, 8, 1, 10_000_000)
+    number(word, 8, 1, LAST_SHORT_CYCLE)
 }
 
-/// The number of epochs that a word gives: one to seven decimal digits, no sign, from 1 on.
+/// The number of epochs that a word gives: one to seven decimal digits, no sign, from 1 to `MOST_EPOCHS`.
 pub fn epochs(word: &str) -> Option<u64>
     ensures { result ≡ epochs_of word.now }
 {
-    number(word, 7, 1, 9_999_999)
+    number(word, 7, 1, MOST_EPOCHS)
 }
 
 /// The cycle that a word gives: one to thirteen decimal digits, no sign, at most 1,099,511,627,776.

@@ -18,6 +18,7 @@ use Rattle.commands.specs.Texts.{resume_text}
 use Rattle.commands.specs.Plan.{network_plan, state_or, state_plan}
 use Rattle.commands.specs.Parts.{HasRead, IsFresh, Ready, output}
 use Rattle.commands.specs.declared.job.Job.TheVariants as job
+use Rattle.command_plans.specs.declared.files.TheConstants.{MOST_STATE_BYTES}
 
 -- a fault that is no want of memory is that of the text
 pub gave_fault : {A : Type 0} (e : StateFault) (read : Result A StateFault) → e ≢ fault.NoMemory → Fails e read → read ≡ Err e
@@ -26,14 +27,14 @@ gave_fault (fault.OutOfBounds line) read other h = h
 gave_fault fault.PastEnd read other h = h
 gave_fault fault.NoMemory read other h = absurd (other refl)
 
-module _ (files : Files) (network : ScenarioOf) (name bytes : List ℕ) (read : Reached files (Read name 4194304 (BadState name cause.TooLong) Give) (Give bytes)) where
+module _ (files : Files) (network : ScenarioOf) (name bytes : List ℕ) (read : Reached files (Read name MOST_STATE_BYTES (BadState name cause.TooLong) Give) (Give bytes)) where
   pub state_accepted : (state : StateOf) → state_in network bytes ≡ Ok state → Reached files (state_plan network name) (Give state)
   state_accepted state e =
-      opened files name 4194304 (BadState name cause.TooLong) bytes (Give state) read (λ b. state_or name (state_in network b)) (rw e (Here (Give state)))
+      opened files name MOST_STATE_BYTES (BadState name cause.TooLong) bytes (Give state) read (λ b. state_or name (state_in network b)) (rw e (Here (Give state)))
 
   pub state_refused : (fault : StateFault) → state_in network bytes ≡ Err fault → Reached files (state_plan network name) (Refuse (BadState name (cause.Faulty fault)))
   state_refused fault e =
-      opened files name 4194304 (BadState name cause.TooLong) bytes (Refuse (BadState name (cause.Faulty fault))) read (λ b. state_or name (state_in network b))
+      opened files name MOST_STATE_BYTES (BadState name cause.TooLong) bytes (Refuse (BadState name (cause.Faulty fault))) read (λ b. state_or name (state_in network b))
       (rw e (Here (Refuse (BadState name (cause.Faulty fault)))))
 
 module _ (files files' : Files) (file name : List ℕ) (network : ScenarioOf) (store mid store' : Reads) (err err' : Stream)

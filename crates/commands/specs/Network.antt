@@ -6,6 +6,8 @@ use Rattle.scenario_file.specs.Scenario.{ScenarioParts, no_script}
 use Rattle.node_runner.specs.Scenario.{ScenarioOf, fleet_of}
 use Rattle.world_core.specs.Order.{run_rows}
 use Rattle.trace_writer.specs.Line.{rows_text}
+use Rattle.scenario_file.specs.declared.defaults.TheConstants.{BYTE_TIME, LATENCY}
+use Rattle.scenario_file.specs.declared.ranges.TheConstants.{WIDEST_WINDOW}
 
 -- the network of a scenario's text, with the image of each node
 abbrev pub network_of : ScenarioParts → List Image → ScenarioOf
@@ -15,7 +17,7 @@ network_of parts images = record { topo = parts.topology; images = images; scrip
 -- latency and byte time are what a scenario's text has where it names none
 abbrev pub lone_node : Image → ℕ → ScenarioOf
 lone_node image cycles =
-    record { topo = topology 1 cycles 3072 3072 [] [] []; images = image ∷ []; scripts = no_script ∷ []; from = 0; to = min cycles 20000 }
+    record { topo = topology 1 cycles LATENCY BYTE_TIME [] [] []; images = image ∷ []; scripts = no_script ∷ []; from = 0; to = min cycles WIDEST_WINDOW }
 
 -- the trace of a network: the rows of the single global order of cycles, a line each
 abbrev pub trace_of : ScenarioOf → List ℕ

@@ -22,6 +22,7 @@ use Rattle.commands.specs.Listing.{listing}
 use Rattle.commands.specs.Network.{lone_node, network_of, size_line, trace_of}
 use Rattle.commands.specs.Sample.{sample_line}
 use Rattle.commands.specs.Texts.{head_on_text, head_text, look_on_text, look_text, resume_text, save_text, sweep_text, watch_on_text, watch_sweep_text, watch_text}
+use Rattle.command_plans.specs.declared.files.TheConstants.{MOST_STATE_BYTES}
 
 -- read the image of each node of a scenario, for the network
 abbrev pub images_for : ScenarioParts → Plan ScenarioOf
@@ -63,7 +64,7 @@ state_or name (Err fault) = Refuse (BadState name (cause.Faulty fault))
 
 -- read a state of a network, of at most 4,194,304 bytes of text
 abbrev pub state_plan : ScenarioOf → List ℕ → Plan StateOf
-state_plan network name = Read name 4194304 (BadState name cause.TooLong) (λ bytes. state_or name (state_in network bytes))
+state_plan network name = Read name MOST_STATE_BYTES (BadState name cause.TooLong) (λ bytes. state_or name (state_in network bytes))
 
 -- a run from a state on can be cut where an epoch ends below the limit, too
 abbrev pub cut_on_or : List ℕ → ℕ → ScenarioOf → StateOf → Plan (ScenarioOf × StateOf)

@@ -15,16 +15,13 @@ ghost use Rattle.world_core.specs.Order.{run_rows, world_at};
 
 use avr_base::NoMemory;
 use checkpoint_text::{Saved, read_parts, read_state, write_onward_state, write_state};
-use command_plans::{Complaint, StateCause, Trouble, read_file};
+use command_plans::{Complaint, MOST_STATE_BYTES, StateCause, Trouble, read_file};
 use fleet_plain::PlainRun;
 use node_runner::Scenario;
 use sim_io::{Sink, Store};
 use state_text::{StateFault, StateParts};
 use std::alloc::Global;
 use world_core::EPOCH;
-
-// The most bytes of a state's text.
-const MOST_STATE_BYTES: usize = 4_194_304;
 
 /// The saved state of a network in the file `name`, which has at most 4,194,304 bytes of text.
 pub fn read_saved<'n, S: Store>(

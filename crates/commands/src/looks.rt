@@ -6,6 +6,7 @@ ghost use Rattle.command_plans.specs.Parts.{Stopped};
 ghost use Rattle.commands.specs.Parts.{HasCome, HasGot, HasRead, IsLookOn};
 ghost use Rattle.commands.specs.Plan.{look_from_plan, look_on_plan, look_plan, save_on_plan};
 ghost use Rattle.commands.specs.Texts.{look_on_text};
+ghost use Rattle.command_words.specs.declared.operands.TheConstants.{MOST_EPOCHS};
 
 use crate::checkpoints::{come_to, read_saved};
 use crate::reading::{read_cut_on, read_network};
@@ -126,7 +127,7 @@ pub fn read_saved_on<'w, S: Store, E: Sink>(
     store: &mut S,
     err: &mut E,
 ) -> Result<(Scenario, Saved), Status>
-    requires few { epochs ≤ 9999999 }
+    requires few { epochs ≤ MOST_EPOCHS }
     ensures held { S.held store.new ≡ S.held store.old }
     ensures ok { IfOk result (λ at. HasGot (S.held store.old) (save_on_plan file.entry.now epochs name.entry.now)
         (reads (S.faults store.old) (S.failed store.old)) (reads (S.faults store.new) (S.failed store.new))

@@ -3,6 +3,7 @@ ghost use Rattle.std.specs.Prelude.{◌≡◌, ◌≤◌, IfOk};
 ghost use Rattle.commands.specs.Network.{lone_node, size_line};
 ghost use Rattle.command_plans.specs.Ends.{stream};
 ghost use Rattle.command_plans.specs.Parts.{Written};
+ghost use Rattle.air_base.specs.declared.bounds.TheConstants.{LAST_SHORT_CYCLE};
 
 use arrayvec::ArrayString;
 use avr_base::NoMemory;
@@ -10,19 +11,17 @@ use avr_program::Program;
 use command_plans::Trouble;
 use ihex_loader::Flash;
 use node_runner::Scenario;
-use scenario_file::{BYTE_TIME, LATENCY, ScenarioText, no_script};
+use scenario_file::{BYTE_TIME, LATENCY, ScenarioText, WIDEST_WINDOW, no_script};
 use sim_io::{Sink, put_decimal, write_all};
 use std::alloc::Global;
 use world_core::Topo;
 
-// The cycles from 0 on in which the instructions of a lone node are traced.
-const TRACED: u64 = 20_000;
-
-/// The network of one node that hears nobody and at which nothing arrives, over `cycles` cycles, 1 to 10,000,000. `Err`
+/// The network of one node that hears nobody and at which nothing arrives, over `cycles` cycles, 1 to `LAST_SHORT_CYCLE`. Its
+/// instructions are traced from cycle 0 on, as far as a window goes. `Err`
 /// only for want of memory.
 pub fn lone_node(alloc: Global, flash: Flash, cycles: u64) -> Result<Scenario, NoMemory>
     requires some { 1 ≤ cycles }
-    requires limit { cycles ≤ 10000000 }
+    requires limit { cycles ≤ LAST_SHORT_CYCLE }
     ensures { IfOk result (λ network. network ≡ lone_node flash cycles) }
 {
     let mut images = Vec::with_capacity(alloc, 1)?;
@@ -36,7 +35,7 @@ pub fn lone_node(alloc: Global, flash: Flash, cycles: u64) -> Result<Scenario, N
         topo,
         images: Vec::new(alloc),
         scripts,
-        window: (0, cycles.min(TRACED)),
+        window: (0, cycles.min(WIDEST_WINDOW)),
     };
     Ok(Scenario::new(text, images))
 }

@@ -6,6 +6,7 @@ ghost use Rattle.command_plans.specs.Parts.{Stopped};
 ghost use Rattle.commands.specs.Plan.{cut_on_plan, cut_plan, network_plan, plan_of};
 ghost use Rattle.commands.specs.Parts.{HasGot, HasRead, IsCutOn, JobRead, Prepares};
 ghost use Rattle.world_core.specs.Kept.{epoch};
+ghost use Rattle.command_words.specs.declared.operands.TheConstants.{MOST_EPOCHS};
 
 use crate::checkpoints::read_saved;
 use crate::job::Job;
@@ -63,7 +64,7 @@ fn read_cut<'w, S: Store, E: Sink>(
     store: &mut S,
     err: &mut E,
 ) -> Result<Scenario, Status>
-    requires few { epochs ≤ 9999999 }
+    requires few { epochs ≤ MOST_EPOCHS }
     ensures held { S.held store.new ≡ S.held store.old }
     ensures ok { IfOk result (HasRead (S.held store.old) (cut_plan file.entry.now epochs)
         (reads (S.faults store.old) (S.failed store.old)) (reads (S.faults store.new) (S.failed store.new))
@@ -95,7 +96,7 @@ pub fn read_cut_on<'w, S: Store, E: Sink>(
     store: &mut S,
     err: &mut E,
 ) -> Result<(Scenario, Saved), Status>
-    requires few { epochs ≤ 9999999 }
+    requires few { epochs ≤ MOST_EPOCHS }
     ensures held { S.held store.new ≡ S.held store.old }
     ensures ok { IfOk result (λ at. HasGot (S.held store.old) (cut_on_plan file.entry.now epochs name.entry.now)
         (reads (S.faults store.old) (S.failed store.old)) (reads (S.faults store.new) (S.failed store.new))

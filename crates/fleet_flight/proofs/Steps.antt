@@ -28,6 +28,7 @@ use Rattle.fleet_flight.proofs.Hearing.{audible_before, heard_in}
 use Rattle.fleet_flight.proofs.Flights.{AtSample, Between, Flies, InFlight, Known, Went, ear, kept_split, known_cut, known_on, live_case, other_node, over_later, own_all, settled, went}
 use Rattle.fleet_flight.proofs.Records.{pairs_push}
 use Rattle.fleet_flight.proofs.Trails.{asks_alone, comes_alone, sends_alone, stands_at}
+use Rattle.air_base.specs.declared.bounds.TheConstants.{MOST_NODES}
 
 -- a node at the beginning of a cycle has come there
 comes_here : {S R : Type 0} (m : NodeKind S R) (c : ℕ) (s : S) (l : List R) → Comes m (record { cycle = c; asking = false; state = s; rows = l }) c s l
@@ -320,9 +321,9 @@ module _ {S R : Type 0} (f : Fleet S R) (steady : IsSteady f.kind) (since end : 
           (All-push (λ (y : Send). (y.node < f.topo.nodes) × (y.cycle < end)) xs x fl.inside (l, early))
           (pairs_push Q xs x fl.rises (All-weaker (λ (y : Send). y.node ≡ k → y.cycle < v.cycle) (λ (y : Send). Q y x) (λ y h same. let a = h same in omega arith) xs known_here.below))
 
-      pub can_post : f.topo.nodes ≤ 64 → CanPost k v.cycle xs
+      pub can_post : f.topo.nodes ≤ MOST_NODES → CanPost k v.cycle xs
       can_post few = record {
-        nodes = All-weaker (λ (y : Send). (y.node < f.topo.nodes) × (y.cycle < end)) (λ (y : Send). y.node < 64) (λ y h. let a = h.0 in omega arith) xs fl.inside;
+        nodes = All-weaker (λ (y : Send). (y.node < f.topo.nodes) × (y.cycle < end)) (λ (y : Send). y.node < MOST_NODES) (λ y h. let a = h.0 in omega arith) xs fl.inside;
         rises = fl.rises;
         behind = known_here.below;
       }

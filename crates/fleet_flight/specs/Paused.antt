@@ -13,6 +13,7 @@ use Rattle.node_core.specs.State.{NodeState}
 use Rattle.node_core.specs.Cycle.{end_row}
 use Rattle.air_base.specs.Each.{each_below}
 use Rattle.fleet_flight.specs.Origin.{Origin}
+use Rattle.air_base.specs.declared.bounds.TheConstants.{MOST_NODES}
 
 -- node k of a list
 abbrev pub node_in : {S R : Type 0} → List (Timed S R) → ℕ → Timed S R → Timed S R
@@ -64,6 +65,6 @@ pub record HaveBegun (o : Origin) (n : ℕ) (vs : List (Timed NodeState Row)) : 
 
 -- a record of these sends takes one of node k of the cycle c or later
 pub record CanPost (k c : ℕ) (xs : List Send) : Type 0 where
-  pub nodes : All (λ x. x.node < 64) xs
+  pub nodes : All (λ x. x.node < MOST_NODES) xs
   pub rises : Rises xs
   pub behind : All (λ x. x.node ≡ k → x.cycle < c) xs

@@ -3,6 +3,7 @@ ghost use Rattle.std.specs.Prelude.{◌≡◌, ◌<◌, ◌≤◌, ◌++◌, len
 ghost use Rattle.std.specs.List.{All};
 ghost use Rattle.fleet_flight.specs.Shadows.{IsNew, IsShadow, IsSpot, IsStill, group_of, groups_of};
 ghost use Rattle.fleet_flight.specs.Watched.{group_with, groups_in, places_of};
+ghost use Rattle.air_base.specs.declared.bounds.TheConstants.{MOST_NODES};
 
 use crate::Shadow;
 use avr_base::NoMemory;
@@ -68,7 +69,7 @@ fn put_shadow(
 /// The shadows of those of these nodes that have places among these, in order of number.
 pub fn shadows_of(alloc: Global, nodes: &[Node], places: &[Place]) -> Result<Vec<Shadow>, NoMemory>
     requires still { All IsStill nodes.now }
-    requires few { length nodes.now ≤ 64 }
+    requires few { length nodes.now ≤ MOST_NODES }
     requires spots { All (λ p. IsSpot p.spot) places.now }
     ensures groups { IfOk result (λ v. groups_of v.items ≡ groups_in (length nodes.now) places.now) }
     ensures each { IfOk result (λ v. All (IsNew nodes.now) v.items) }

@@ -7,6 +7,7 @@ ghost use Rattle.node_core.specs.Cycle.{node_kind};
 ghost use Rattle.fleet_flight.specs.Origin.{flown};
 ghost use Rattle.fleet_flight.specs.Paused.{CanPost, IsHeld, IsPaused};
 ghost use Rattle.fleet_flight.specs.Turns.{Takes, is_live};
+ghost use Rattle.air_base.specs.declared.bounds.TheConstants.{MOST_NODES};
 
 use crate::Begins;
 use crate::latency::lookahead;
@@ -31,7 +32,7 @@ fn advance(
 ) -> Result<(), NoMemory>
     requires live { is_live node_kind end node.old ≡ true }
     requires early { end ≤ LAST_CYCLE }
-    requires number { number < 64 }
+    requires number { number < MOST_NODES }
     requires inside { All (λ x. IsInside topo.now x.node x.cycle) log.old.sends }
     requires post { CanPost number node.old.cycle log.old.sends }
     ensures { OnOk result (Takes node_kind topo.now number low end node.old log.old.sends node.new log.new.sends) }

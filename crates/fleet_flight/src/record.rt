@@ -6,6 +6,7 @@ ghost use Rattle.world_core.specs.Kept.{is_kept};
 ghost use Rattle.fleet_flight.specs.Paused.{CanPost};
 ghost use Rattle.fleet_flight.specs.Turns.{Grows};
 ghost use Rattle.send_order.specs.Order.{AreOrdered};
+ghost use Rattle.air_base.specs.declared.bounds.TheConstants.{MOST_NODES};
 
 use air_base::Send;
 use avr_base::NoMemory;
@@ -15,7 +16,7 @@ use world_core::{SendLog, Topo};
 
 // Puts sends into the record, behind those that it has. There is room for them.
 fn append(log: &mut SendLog, sends: &[Send])
-    requires nodes { All (λ x. x.node < 64) sends.now }
+    requires nodes { All (λ x. x.node < MOST_NODES) sends.now }
     requires rises { Rises (log.old.sends ++ sends.now) }
     requires room { length log.old.sends + length sends.now ≤ log.old.room }
     ensures { log.new ≡ log_of (log.old.sends ++ sends.now) log.old.room }
@@ -27,7 +28,7 @@ fn append(log: &mut SendLog, sends: &[Send])
 
 /// A record of these sends, of which each node's rise, with room for `room`.
 pub fn record_of(alloc: Global, sends: &[Send], room: usize) -> Result<SendLog, NoMemory>
-    requires nodes { All (λ x. x.node < 64) sends.now }
+    requires nodes { All (λ x. x.node < MOST_NODES) sends.now }
     requires rises { Rises sends.now }
     requires room { length sends.now ≤ room }
     ensures { IfOk result (λ log. log ≡ log_of sends.now room) }
@@ -42,7 +43,7 @@ pub fn record_of(alloc: Global, sends: &[Send], room: usize) -> Result<SendLog, 
 // Drops what is over at the cycle `floor`, and takes more room where less than half would be free: so a send is copied a
 // few times at most, however often a record is full.
 fn make_room(alloc: Global, topo: &Topo, log: &mut SendLog, floor: u64) -> Result<(), NoMemory>
-    requires nodes { All (λ x. x.node < 64) log.old.sends }
+    requires nodes { All (λ x. x.node < MOST_NODES) log.old.sends }
     requires rises { Rises log.old.sends }
     ensures sends { OnOk result (log.new.sends ≡ filter (is_kept topo.now floor) log.old.sends) }
     ensures room { OnOk result (length log.new.sends < log.new.room) }
@@ -65,7 +66,7 @@ fn post_to_full(
     send: Send,
     floor: u64,
 ) -> Result<(), NoMemory>
-    requires node { send.node < 64 }
+    requires node { send.node < MOST_NODES }
     requires behind { CanPost send.node send.cycle log.old.sends }
     ensures { OnOk result (log.new.sends ≡ filter (is_kept topo.now floor) log.old.sends ++ send ∷ []) }
 {
@@ -83,7 +84,7 @@ pub fn post(
     send: Send,
     floor: u64,
 ) -> Result<(), NoMemory>
-    requires node { send.node < 64 }
+    requires node { send.node < MOST_NODES }
     requires behind { CanPost send.node send.cycle log.old.sends }
     ensures { OnOk result (Grows topo.now floor log.old.sends send log.new.sends) }
 {
@@ -102,7 +103,7 @@ pub fn kept_sends(
     log: &SendLog,
     floor: u64,
 ) -> Result<Vec<Send>, NoMemory>
-    requires nodes { All (λ x. x.node < 64) log.now.sends }
+    requires nodes { All (λ x. x.node < MOST_NODES) log.now.sends }
     requires rises { Rises log.now.sends }
     ensures { IfOk result (λ sends. AreOrdered (filter (is_kept topo.now floor) log.now.sends) sends.items) }
 {

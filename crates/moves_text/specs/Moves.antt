@@ -10,6 +10,8 @@ use Rattle.moves_text.specs.declared.fault.LineFault.TheVariants.{BadLine, NoNod
 use Rattle.moves_text.specs.declared.fault.MovesFault.{MovesFault}
 use Rattle.moves_text.specs.declared.fault.MovesFault.TheVariants.{AtLine, Empty}
 use Rattle.moves_text.specs.declared.room.Room.{Room}
+use Rattle.air_base.specs.Bounds.{LAST_CYCLE}
+use Rattle.serial_ports.specs.declared.stretch.TheConstants.{LONGEST_EVERY, MOST_ARRIVALS}
 
 -- what a line says: at which node, and what arrives there
 pub record MoveOf : Type 0 where
@@ -41,7 +43,7 @@ bytes_in line (c ∷ cs) = decoded line (decode_of (c ∷ cs))
 
 -- what a line leaves to its first stretch, and to the one behind a stretch, which begins behind its last byte
 abbrev pub whole_room : Room
-whole_room = record { from = 0; bytes = 65536 }
+whole_room = record { from = 0; bytes = MOST_ARRIVALS }
 
 unfoldable pub left_behind : Room → ℕ → ℕ → ℕ → Room
 left_behind room at every count = record { from = at + (count - 1) * every + 1; bytes = room.bytes - count }
@@ -59,8 +61,8 @@ placed line room s =
 -- AT EVERY HEX: the cycle of the first byte, the cycles from one byte to the next, and the bytes
 unfoldable pub stretch_in : ℕ → Room → List ℕ → List ℕ → List ℕ → Result StretchBytes MovesFault
 stretch_in line room first distance digits = do
-  at ← number_in line OutOfRange 0 1099511627777 first
-  every ← number_in line OutOfRange 1 65536 distance
+  at ← number_in line OutOfRange 0 (LAST_CYCLE + 1) first
+  every ← number_in line OutOfRange 1 (LONGEST_EVERY + 1) distance
   bytes ← bytes_in line digits
   placed line room (record { at = at; every = every; bytes = bytes })
 

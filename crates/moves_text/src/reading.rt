@@ -9,7 +9,7 @@ use crate::fault::{LineFault, MovesFault};
 use crate::moves::Move;
 use crate::room::Room;
 use crate::words::{next_stretch, number_in};
-use serial_ports::{Script, Stretch};
+use serial_ports::{MOST_ARRIVALS, Script, Stretch};
 use state_text::{Parts, cut};
 use std::alloc::Global;
 
@@ -24,7 +24,7 @@ fn stretches_in(
     let mut stretches = Vec::new(alloc);
     let mut room = Room {
         from: 0,
-        bytes: 65_536,
+        bytes: MOST_ARRIVALS,
     };
     loop {
         let Some((stretch, behind)) = next_stretch(alloc, line, room, &mut words)? else {

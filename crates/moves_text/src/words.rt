@@ -2,12 +2,13 @@
 ghost use Rattle.std.specs.Prelude.{◌≡◌, ◌<◌, ◌≤◌, length, option_map, IfOk, IfSome};
 ghost use Rattle.moves_text.specs.Moves.{bytes_in, number_in, room_behind, stretch_in};
 ghost use Rattle.moves_text.specs.Reading.{Gives, next_stretch};
+ghost use Rattle.serial_ports.specs.declared.stretch.TheConstants.{MOST_ARRIVALS};
 
 use crate::fault::{LineFault, MovesFault};
 use crate::room::Room;
 use air_base::LAST_CYCLE;
 use hex::FromHexError;
-use serial_ports::Stretch;
+use serial_ports::{LONGEST_EVERY, Stretch};
 use state_text::{Parts, is_decimal, value};
 use std::alloc::Global;
 
@@ -63,13 +64,13 @@ fn stretch_in(
     every: &[u8],
     digits: &[u8],
 ) -> Result<(Stretch, Room), MovesFault>
-    requires few { room.bytes ≤ 65536 }
+    requires few { room.bytes ≤ MOST_ARRIVALS }
     ensures exact { Gives (λ x. x.0) result (stretch_in line room at.now every.now digits.now) }
     ensures behind { IfOk result (λ x. x.1 ≡ room_behind room x.0) }
-    ensures few { IfOk result (λ x. x.1.bytes ≤ 65536) }
+    ensures few { IfOk result (λ x. x.1.bytes ≤ MOST_ARRIVALS) }
 {
     let at = number_in(line, LineFault::OutOfRange, 0, LAST_CYCLE + 1, at)?;
-    let every = number_in(line, LineFault::OutOfRange, 1, 65_536, every)?;
+    let every = number_in(line, LineFault::OutOfRange, 1, LONGEST_EVERY + 1, every)?;
     let bytes = bytes_in(alloc, line, digits)?;
     if at < room.from {
         return Err(LineFault::Unordered.at(line));
@@ -90,10 +91,10 @@ pub fn next_stretch(
     room: Room,
     words: &mut Parts<'_>,
 ) -> Result<Option<(Stretch, Room)>, MovesFault>
-    requires few { room.bytes ≤ 65536 }
+    requires few { room.bytes ≤ MOST_ARRIVALS }
     ensures exact { Gives (λ o. option_map (λ x. (x.0, words.new)) o) result (next_stretch line room words.old) }
     ensures behind { IfOk result (λ o. IfSome o (λ x. x.1 ≡ room_behind room x.0)) }
-    ensures few { IfOk result (λ o. IfSome o (λ x. x.1.bytes ≤ 65536)) }
+    ensures few { IfOk result (λ o. IfSome o (λ x. x.1.bytes ≤ MOST_ARRIVALS)) }
 {
     let Some(at) = words.next() else {
         return Ok(None);

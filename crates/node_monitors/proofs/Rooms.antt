@@ -19,6 +19,7 @@ use Rattle.node_monitors.proofs.Counts.{bit, count-none}
 use Rattle.node_monitors.proofs.Owners.{lead-is}
 use Rattle.node_monitors.proofs.Steps.{took-taken}
 use Rattle.node_monitors.proofs.Tables.{table-at, table-length, table-same, cycles-used, used-whole}
+use Rattle.node_monitors.specs.declared.spent.TheConstants.{AWAKE_CHARGE, SENT_CHARGE}
 
 -- no more rows of a kind than rows
 pub rows_most : (test : Kind → Bool) (node : ℕ) (rows : List Row) → rows_that test node rows ≤ length rows
@@ -243,7 +244,7 @@ pub record Covers (rows : List Row) (s : Sums) : Type 0 where
   pub most : s.words ≤ 65536
   pub within : All (λ r. IsWithin s.words r.kind) rows
 
-pub taken-charge : (rows : List Row) (s : Sums) → Covers rows s → IsTaken rows s → 8 * s.awake + s.asleep + 512 * s.sent ≡ (account s.node s.window rows).charge
+pub taken-charge : (rows : List Row) (s : Sums) → Covers rows s → IsTaken rows s → AWAKE_CHARGE * s.awake + s.asleep + SENT_CHARGE * s.sent ≡ (account s.node s.window rows).charge
 unfolding account
 taken-charge rows s v h =
     let at : cycles_in (spent (at_word s.node s.window rows)) ≡ cycles_in s.at =
@@ -263,7 +264,7 @@ pub record AreRead (s : Sums) (a : Account) : Type 0 where
   pub entered : a.entered ≡ filter is_used s.entered
   pub asleep : a.asleep ≡ s.asleep
   pub stopped : a.stopped ≡ s.stopped
-  pub charge : a.charge ≡ 8 * s.awake + s.asleep + 512 * s.sent
+  pub charge : a.charge ≡ AWAKE_CHARGE * s.awake + s.asleep + SENT_CHARGE * s.sent
 
 own_account : (rows : List Row) (s : Sums) (a : Account) → Covers rows s → IsTaken rows s → AreRead s a → a ≡ account s.node s.window rows
 unfolding account
@@ -285,7 +286,7 @@ taken-whole window rows s a f h r =
     own ∙ ap (λ (w : ℕ × ℕ). w.1 - w.0) f
 
 pub charge-fits : (node : ℕ) (window : ℕ × ℕ) (rows : List Row) (s : Sums) → s.node ≡ node → s.window ≡ window → IsTaken rows s →
-    8 * (window.1 - window.0) + 512 * bytes_sent node window rows < 2 ^ 64 → 8 * s.awake + s.asleep + 512 * s.sent < 2 ^ 64
+    AWAKE_CHARGE * (window.1 - window.0) + SENT_CHARGE * bytes_sent node window rows < 2 ^ 64 → AWAKE_CHARGE * s.awake + s.asleep + SENT_CHARGE * s.sent < 2 ^ 64
 charge-fits node window rows s e f h fits =
     let bytes : s.sent ≡ bytes_sent node window rows = h.sent ∙ ap (λ n. bytes_sent n s.window rows) e ∙ ap (λ w. bytes_sent node w rows) f in
     let width : s.window.1 - s.window.0 ≡ window.1 - window.0 = ap (λ (w : ℕ × ℕ). w.1 - w.0) f in

@@ -9,6 +9,7 @@ use Rattle.node_monitors.specs.Sums.{Sums, no_rows, took}
 use Rattle.node_monitors.specs.Taken.{IsTaken, IsWithin}
 use Rattle.node_monitors.proofs.Rooms.{AreRead, Covers, none-taken, taken-account, taken-whole, took-node, took-window, took-words}
 use Rattle.node_monitors.proofs.Steps.{took-taken}
+use Rattle.node_monitors.specs.declared.spent.TheConstants.{AWAKE_CHARGE, SENT_CHARGE}
 
 module _ (node : ℕ) (window : ℕ × ℕ) where
   -- the sums of all rows
@@ -42,7 +43,7 @@ module _ (node : ℕ) (window : ℕ × ℕ) where
     entered = filter is_used s.entered;
     asleep = s.asleep;
     stopped = s.stopped;
-    charge = 8 * s.awake + s.asleep + 512 * s.sent;
+    charge = AWAKE_CHARGE * s.awake + s.asleep + SENT_CHARGE * s.sent;
   }
 
   read : (s : Sums) → AreRead s (given s)

@@ -7,6 +7,7 @@ use Rattle.node_core.specs.declared.row.Kind.{Kind}
 use Rattle.node_monitors.specs.declared.spent.Spent.{Spent}
 use Rattle.node_monitors.specs.Owner.{owner, owned, cycles_of, is_asleep, is_stopped, is_instr, is_executing, is_entry, is_entering, is_sent}
 use Rattle.node_monitors.specs.Spent.{is_used, table, cycles_in}
+use Rattle.node_monitors.specs.declared.spent.TheConstants.{AWAKE_CHARGE, SENT_CHARGE}
 
 pub record Account : Type 0 where
   -- the cycles before the node's first row
@@ -57,7 +58,7 @@ bytes_sent node window rows =
 
 -- eight units for a cycle awake, one for a cycle of sleep, 512 for a byte sent
 abbrev pub charge : List Spent → List Spent → ℕ → ℕ → ℕ
-charge at entered asleep bytes = 8 * (cycles_in at + cycles_in entered) + asleep + 512 * bytes
+charge at entered asleep bytes = AWAKE_CHARGE * (cycles_in at + cycles_in entered) + asleep + SENT_CHARGE * bytes
 
 unfoldable pub account : ℕ → ℕ × ℕ → List Row → Account
 account node window rows =

@@ -8,6 +8,7 @@ use Rattle.node_monitors.specs.declared.spent.Spent.{Spent}
 use Rattle.node_monitors.specs.Account.{Account}
 use Rattle.node_monitors.specs.Matters.{matters}
 use Rattle.node_monitors.specs.Spent.{is_used, unused}
+use Rattle.node_monitors.specs.declared.spent.TheConstants.{AWAKE_CHARGE, SENT_CHARGE}
 
 pub record TallyOf : Type 0 where
   pub node : ℕ
@@ -97,7 +98,7 @@ ended t = shared (max t.window.0 t.window.1) t
 
 -- the charge, by the cycles awake that are left
 abbrev pub charge_of : TallyOf → ℕ
-charge_of t = 8 * (t.window.1 - t.window.0 - t.lead - t.asleep - t.stopped) + t.asleep + 512 * t.sent
+charge_of t = AWAKE_CHARGE * (t.window.1 - t.window.0 - t.lead - t.asleep - t.stopped) + t.asleep + SENT_CHARGE * t.sent
 
 -- the account that the sums give
 abbrev pub told : TallyOf → Account

@@ -4,8 +4,9 @@ ghost use Rattle.std.specs.List.{All, filter};
 ghost use Rattle.node_monitors.specs.Spent.{is_used};
 ghost use Rattle.node_monitors.specs.Sums.{executed, executing, halted, is_free, is_within, newly_owned, no_rows, since, told, took, vectored};
 ghost use Rattle.node_monitors.specs.Taken.{HasRoom, IsTaken, IsWithin};
+ghost use Rattle.node_monitors.specs.declared.spent.TheConstants.{AWAKE_CHARGE, SENT_CHARGE};
 
-use crate::spent::{Spent, add, unused_table, used};
+use crate::spent::{AWAKE_CHARGE, SENT_CHARGE, Spent, add, unused_table, used};
 use node_core::{Kind, Row};
 use std::alloc::{AllocError, Global};
 use std::marker::Model;
@@ -249,9 +250,9 @@ impl Ledger {
 
     /// The charge in its units: 8 for a cycle awake, 1 for a cycle of sleep, 512 for a byte sent.
     pub fn charge(&self) -> u64
-        requires { 8 * self.now.awake + self.now.asleep + 512 * self.now.sent < 2 ^ 64 }
-        ensures { result ≡ 8 * self.now.awake + self.now.asleep + 512 * self.now.sent }
+        requires { AWAKE_CHARGE * self.now.awake + self.now.asleep + SENT_CHARGE * self.now.sent < 2 ^ 64 }
+        ensures { result ≡ AWAKE_CHARGE * self.now.awake + self.now.asleep + SENT_CHARGE * self.now.sent }
     {
-        8 * self.awake + self.asleep + 512 * self.sent
+        AWAKE_CHARGE * self.awake + self.asleep + SENT_CHARGE * self.sent
     }
 }

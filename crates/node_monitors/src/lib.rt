@@ -14,5 +14,5 @@ mod tally;
 pub use laws::{tally_law, whole_law};
 pub use needed::{matters, matters_law};
 pub use profile::Profile;
-pub use spent::Spent;
+pub use spent::{AWAKE_CHARGE, SENT_CHARGE, Spent};
 pub use tally::Tally;

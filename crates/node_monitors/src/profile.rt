@@ -1,6 +1,7 @@
 // The profile of one node.
 ghost use Rattle.std.specs.Prelude.{◌≡◌, ◌+◌, ◌-◌, ◌*◌, ◌^◌, ◌<◌, IfOk};
 ghost use Rattle.node_monitors.specs.Account.{account, bytes_sent, whole};
+ghost use Rattle.node_monitors.specs.declared.spent.TheConstants.{AWAKE_CHARGE, SENT_CHARGE};
 
 use crate::Spent;
 use crate::ledger::Ledger;
@@ -38,7 +39,7 @@ impl Profile {
         window: (u64, u64),
         rows: &[Row],
     ) -> Result<Profile, NoMemory>
-        requires { 8 * (window.1 - window.0) + 512 * bytes_sent node window rows.now < 2 ^ 64 }
+        requires { AWAKE_CHARGE * (window.1 - window.0) + SENT_CHARGE * bytes_sent node window rows.now < 2 ^ 64 }
         ensures account { IfOk result (λ p. p ≡ account node window rows.now) }
         ensures whole { IfOk result (λ p. whole p ≡ window.1 - window.0) }
     {

@@ -5,6 +5,12 @@ ghost use Rattle.node_monitors.specs.Spent.{is_used, more, table, unused};
 
 use std::alloc::{AllocError, Global};
 
+/// The units of charge for a cycle awake; a cycle of sleep is one.
+pub const AWAKE_CHARGE: u64 = 8;
+
+/// The units of charge for a byte sent.
+pub const SENT_CHARGE: u64 = 512;
+
 /// What was spent at one word of flash.
 #[derive(Clone, Copy)]
 pub struct Spent {

@@ -1,10 +1,11 @@
 // The sums over the rows of a node, taken as they come.
 ghost use Rattle.std.specs.Prelude.{◌≡◌, ◌+◌, ◌-◌, ◌*◌, ◌^◌, ◌<◌, ◌≤◌, length, IfOk, OnOk};
 ghost use Rattle.node_monitors.specs.Tally.{charge_of, ended, executes, followed, grown, shared, tallied, told, untallied, with_row};
+ghost use Rattle.node_monitors.specs.declared.spent.TheConstants.{AWAKE_CHARGE, SENT_CHARGE};
 
 use crate::needed::matters;
 use crate::profile::Profile;
-use crate::spent::{Spent, used};
+use crate::spent::{AWAKE_CHARGE, SENT_CHARGE, Spent, used};
 use avr_base::NoMemory;
 use node_core::{Kind, Row};
 use std::alloc::{AllocError, Global};
@@ -165,7 +166,7 @@ impl Tally {
 
     // The charge in its units: 8 for a cycle awake, 1 for a cycle of sleep, 512 for a byte sent.
     fn charge(&self) -> u64
-        requires { 8 * (self.now.window.1 - self.now.window.0) + self.now.asleep + 512 * self.now.sent < 2 ^ 64 }
+        requires { AWAKE_CHARGE * (self.now.window.1 - self.now.window.0) + self.now.asleep + SENT_CHARGE * self.now.sent < 2 ^ 64 }
         ensures { result ≡ charge_of self.now }
     {
         let awake = self
@@ -175,12 +176,12 @@ impl Tally {
             .saturating_sub(self.lead)
             .saturating_sub(self.asleep)
             .saturating_sub(self.stopped);
-        8 * awake + self.asleep + 512 * self.sent
+        AWAKE_CHARGE * awake + self.asleep + SENT_CHARGE * self.sent
     }
 
     // The sums, once all cycles of the window are shared out.
     fn told(&self, alloc: Global) -> Result<Profile, NoMemory>
-        requires { 8 * (self.now.window.1 - self.now.window.0) + self.now.asleep + 512 * self.now.sent < 2 ^ 64 }
+        requires { AWAKE_CHARGE * (self.now.window.1 - self.now.window.0) + self.now.asleep + SENT_CHARGE * self.now.sent < 2 ^ 64 }
         ensures told { IfOk result (λ p. p ≡ told self.now) }
         ensures at { length self.now.at ≤ 65536 }
         ensures entered { length self.now.entered ≤ 65536 }
@@ -200,7 +201,7 @@ impl Tally {
     /// No more rows come: the profile of the node over the window. By `tally_law` it is the account of the rows that were
     /// taken, where they came in order of cycle. `Err` only for want of memory.
     pub fn profile(mut self, alloc: Global) -> Result<Profile, NoMemory>
-        requires { 8 * (self.window.1 - self.window.0) + (ended self).asleep + 512 * self.sent < 2 ^ 64 }
+        requires { AWAKE_CHARGE * (self.window.1 - self.window.0) + (ended self).asleep + SENT_CHARGE * self.sent < 2 ^ 64 }
         ensures told { IfOk result (λ p. p ≡ told (ended self)) }
         ensures at { IfOk result (λ p. length (ended self).at ≤ 65536) }
         ensures entered { IfOk result (λ p. length (ended self).entered ≤ 65536) }

@@ -22,6 +22,7 @@ use Rattle.pieces_law.specs.Pieces.{AreInTurn, AreOneSave}
 use Rattle.pieces_law.proofs.Joined.{cut_of, gives, not_long, read_again, state_accepted}
 use Rattle.pieces_law.proofs.Networks.{network_accepted}
 use Rattle.pieces_law.proofs.Verdicts as verdicts
+use Rattle.command_words.specs.declared.operands.TheConstants.{MOST_EPOCHS}
 
 module _ (files : Files) (file name : List ℕ) (further : ℕ) (network : ScenarioOf) (state : StateOf) (first : verdict files (network_plan file) ≡ Accepted network)
     (read : verdict files (state_plan network name) ≡ Accepted state) (early : nat_lt (state.cycle + further * epoch) network.topo.limit ≡ true) where
@@ -72,7 +73,7 @@ one_save files later first next more whole look calls =
     let one : w.network ≡ network = same_network files calls.file w.network network w.accepted_is c.accepted_is in
     let is : IsAccepted network = network_accepted files calls.file network c.accepted_is in
     let ok : IsScenario network = is_scenario network is in
-    let limits : (1 ≤ calls.epochs) × (calls.epochs ≤ 9999999) = in_limits first (Save calls.file calls.epochs) (form_of first (Save calls.file calls.epochs) calls.first_asks) in
+    let limits : (1 ≤ calls.epochs) × (calls.epochs ≤ MOST_EPOCHS) = in_limits first (Save calls.file calls.epochs) (form_of first (Save calls.file calls.epochs) calls.first_asks) in
     let state : StateOf = saved_at network n in
     let last_early : nat_lt l network.topo.limit ≡ true = subst (λ (s : ScenarioOf). nat_lt l s.topo.limit ≡ true) one w.early in
     let below : l < network.topo.limit = ltb-true l network.topo.limit last_early in

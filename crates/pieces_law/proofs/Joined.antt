@@ -35,6 +35,8 @@ use Rattle.pieces_law.proofs.Networks.{network_accepted}
 use Rattle.pieces_law.proofs.Room.{few_kept, inside}
 use Rattle.pieces_law.proofs.Sizes.{text_short}
 use Rattle.pieces_law.proofs.Verdicts as verdicts
+use Rattle.command_words.specs.declared.operands.TheConstants.{MOST_EPOCHS}
+use Rattle.command_plans.specs.declared.files.TheConstants.{MOST_STATE_BYTES}
 
 -- ---- what was saved
 pub record IsCut (files : Files) (file : List ℕ) (epochs : ℕ) (saved : List ℕ) : Type 0 where
@@ -90,14 +92,14 @@ unfolding plan_of
 run_accepted files file network first =
     verdicts.joined files (network_plan file) (λ n. Give (trace_of n)) network (trace_of network) first (gives files (trace_of network))
 
-pub state_accepted : (files : Files) (name text : List ℕ) (network : ScenarioOf) (state : StateOf) → files name ≡ Some text → length text ≤ 4194304 → state_in network text ≡ Ok state
+pub state_accepted : (files : Files) (name text : List ℕ) (network : ScenarioOf) (state : StateOf) → files name ≡ Some text → length text ≤ MOST_STATE_BYTES → state_in network text ≡ Ok state
     → verdict files (state_plan network name) ≡ Accepted state
 state_accepted files name text network state there le says =
-    verdicts.reads files name 4194304 (BadState name cause.TooLong) (λ bytes. state_or name (state_in network bytes)) text state there le
+    verdicts.reads files name MOST_STATE_BYTES (BadState name cause.TooLong) (λ bytes. state_or name (state_in network bytes)) text state there le
     (ap (λ (r : Result StateOf StateFault). verdict files (state_or name r)) says ∙ gives files state)
 
 resume_accepted : (files : Files) (file name text : List ℕ) (network : ScenarioOf) (state : StateOf) → verdict files (network_plan file) ≡ Accepted network
-    → files name ≡ Some text → length text ≤ 4194304 → state_in network text ≡ Ok state
+    → files name ≡ Some text → length text ≤ MOST_STATE_BYTES → state_in network text ≡ Ok state
     → verdict files (plan_of (Resume file name)) ≡ Accepted (resume_text network state)
 unfolding plan_of
 resume_accepted files file name text network state first there le says =
@@ -131,7 +133,7 @@ module _ (network : ScenarioOf) (is : IsAccepted network) (epochs : ℕ) (some :
   pub read_again : state_in network (state_text state) ≡ Ok state
   read_again = state_again (rules_of network) state ok.topo state_is
 
-  pub not_long : length (state_text state) ≤ 4194304
+  pub not_long : length (state_text state) ≤ MOST_STATE_BYTES
   not_long =
       let r = ok.topo.ranges in
       let nodes = r.nodes_to in
@@ -156,7 +158,7 @@ module _ (network : ScenarioOf) (is : IsAccepted network) (epochs : ℕ) (some :
 pub pieces : (files later : Files) (head save resume run : List (List ℕ)) (calls : IsInPieces files later head save resume run) → AreThePieces files later head save resume run calls.saved
 pieces files later head save resume run calls =
     let c = cut_of files calls.file calls.epochs calls.saved (sym (ap (λ o. verdict files (plan_for o)) calls.save_asks) ∙ calls.accepted) in
-    let limits : (1 ≤ calls.epochs) × (calls.epochs ≤ 9999999) = in_limits save (Save calls.file calls.epochs) (form_of save (Save calls.file calls.epochs) calls.save_asks) in
+    let limits : (1 ≤ calls.epochs) × (calls.epochs ≤ MOST_EPOCHS) = in_limits save (Save calls.file calls.epochs) (form_of save (Save calls.file calls.epochs) calls.save_asks) in
     let some = limits.0 in
     let network = c.network in
     let is = network_accepted files calls.file network c.accepted_is in
@@ -171,7 +173,7 @@ pieces files later head save resume run calls =
       resume_is = ap (λ o. verdict later (plan_for o)) calls.resume_asks
           ∙ resume_accepted later calls.file calls.state (state_text state) network state (calls.kept ∙ c.accepted_is) (calls.written ∙ ap Some text) long (read_again network is calls.epochs some c.early);
       run_is = ap (λ o. verdict files (plan_for o)) calls.run_asks ∙ run_accepted files calls.file network c.accepted_is;
-      short = subst (λ t. length t ≤ 4194304) (sym text) long;
+      short = subst (λ t. length t ≤ MOST_STATE_BYTES) (sym text) long;
       joined = pieces_are network is calls.epochs some c.early;
     }
 

@@ -8,8 +8,10 @@ use Rattle.node_runner.specs.Scenario.{IsScenario}
 use Rattle.commands.specs.Network.{lone_node}
 use Rattle.sample_maker.specs.Sample.{sample}
 use Rattle.sample_maker.proofs.InRing.{lawful}
+use Rattle.air_base.specs.declared.bounds.TheConstants.{LAST_SHORT_CYCLE}
+use Rattle.scenario_file.specs.declared.defaults.TheConstants.{BYTE_TIME, LATENCY}
 
-ranges : (cycles : ℕ) → 1 ≤ cycles → cycles ≤ 10000000 → HasRanges (topology 1 cycles 3072 3072 [] [] [])
+ranges : (cycles : ℕ) → 1 ≤ cycles → cycles ≤ LAST_SHORT_CYCLE → HasRanges (topology 1 cycles LATENCY BYTE_TIME [] [] [])
 ranges cycles some few = record {
   nodes_from = lit≤ tt;
   nodes_to = lit≤ tt;

@@ -21,6 +21,7 @@ use Rattle.command_plans.specs.declared.trouble.ScenarioCause.TheVariants as sce
 use Rattle.commands.specs.Network.{network_of}
 use Rattle.commands.specs.Plan.{images_for, network_plan, span_or, span_plan, up_to_or, up_to_plan}
 use Rattle.pieces_law.proofs.Verdicts.{parts, read}
+use Rattle.command_plans.specs.declared.files.TheConstants.{MOST_IMAGE_BYTES, MOST_SCENARIO_BYTES}
 
 -- ---- the text of a scenario
 said_by : (files : Files) (name : List ℕ) (said : Result ScenarioParts ScenarioFault) (got : ScenarioParts) → verdict files (scenario_or name said) ≡ Accepted got → said ≡ Ok got
@@ -34,7 +35,7 @@ record SaidIn (got : ScenarioParts) : Type 0 where
 
 said_in : (files : Files) (name : List ℕ) (got : ScenarioParts) → verdict files (scenario_plan name) ≡ Accepted got → SaidIn got
 said_in files name got e =
-    let r = read files name 524288 (BadScenario name scenario_cause.TooLong) (λ bytes. scenario_or name (scenario_in bytes)) got e in
+    let r = read files name MOST_SCENARIO_BYTES (BadScenario name scenario_cause.TooLong) (λ bytes. scenario_or name (scenario_in bytes)) got e in
     record { text = r.bytes; says = said_by files name (scenario_in r.bytes) got r.after }
 
 -- ---- the texts of images
@@ -50,7 +51,7 @@ loaded_by files name (Some fault) given got e = absurd (cc)
 
 loaded : (files : Files) (name : List ℕ) (got : Image) → verdict files (image_plan name) ≡ Accepted got → Loaded got
 loaded files name got e =
-    let r = read files name 1048576 (BadImage name image_cause.TooLong) (λ bytes. image_or name (hex_fault bytes) (image bytes)) got e in
+    let r = read files name MOST_IMAGE_BYTES (BadImage name image_cause.TooLong) (λ bytes. image_or name (hex_fault bytes) (image bytes)) got e in
     let l = loaded_by files name (hex_fault r.bytes) (image r.bytes) got r.after in
     record { text = r.bytes; faultless = l.0; is = l.1 }
 

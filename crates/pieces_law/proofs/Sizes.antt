@@ -11,6 +11,7 @@ use Rattle.air_base.specs.declared.air.Send.{Send}
 use Rattle.state_text.specs.Bounds.{HasNode, Rules}
 use Rattle.state_text.specs.Parts.{ended, line_of}
 use Rattle.state_text.specs.Text.{NodeOf, StateOf, bytes_line, cycle_line, node_lines, nodes_lines, numbers_line, send_line, state_lines, state_text, tail_lines, title}
+use Rattle.command_plans.specs.declared.files.TheConstants.{MOST_STATE_BYTES}
 
 -- ---- lines
 -- with the LF at the end of each
@@ -148,7 +149,7 @@ cycle_short cycle small =
 
 -- so the text of a state of at most 64 nodes and as many sends as can be kept is a third of what is read
 pub text_short : (r : Rules) (st : StateOf) → length st.nodes ≤ 64 → AllByRecursion (HasNode r st.cycle) st.nodes → IsWord st.cycle → All IsSmall st.sends → length st.sends ≤ 16448
-    → length (state_text st) ≤ 4194304
+    → length (state_text st) ≤ MOST_STATE_BYTES
 unfolding state_text state_lines
 text_short r st few nodes cycle sends count =
     let is = size_is (title ∷ cycle_line st.cycle ∷ (nodes_lines 0 st.nodes ++ tail_lines st.sends)) in

@@ -4,6 +4,7 @@ use Rattle.world_core.specs.Kept.{epoch}
 use Rattle.command_words.specs.Words.{Head, HeadOn, Look, Resume, Run, Save, SaveOn, asked_by}
 use Rattle.command_plans.specs.Reading.{Files, Accepted, verdict}
 use Rattle.commands.specs.Plan.{network_plan, plan}
+use Rattle.command_plans.specs.declared.files.TheConstants.{MOST_STATE_BYTES}
 
 -- The words of four calls about the scenario in one file: `head` and `save` with as many epochs, `run`, and `resume`
 -- with the state in another file. `save` is accepted over the files of the first three calls. Over those of the last
@@ -30,7 +31,7 @@ pub record AreThePieces (files later : Files) (head save resume run : List (List
   pub head_is : verdict files (plan head) ≡ Accepted first
   pub resume_is : verdict later (plan resume) ≡ Accepted rest
   pub run_is : verdict files (plan run) ≡ Accepted whole
-  pub short : length saved ≤ 4194304
+  pub short : length saved ≤ MOST_STATE_BYTES
   pub joined : first ++ rest ≡ whole
 
 -- The words of calls about the scenario in one file: `save` with so many epochs; `save` and `head` with so many more from

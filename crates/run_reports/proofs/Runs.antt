@@ -25,6 +25,7 @@ use Rattle.run_reports.specs.Profiles.{profile_at, profile_text, profiles_text, 
 use Rattle.run_reports.specs.Tallies.{tallies, tally_of}
 use Rattle.run_reports.proofs.Given.{given_after}
 use Rattle.run_reports.proofs.Cycles.{cycle_few, cycle_below}
+use Rattle.node_monitors.specs.declared.spent.TheConstants.{AWAKE_CHARGE, SENT_CHARGE}
 
 -- how long a list is that is made number by number
 few_each : (m n : ℕ) (g : ℕ → List Row) → ((k : ℕ) → length (g k) ≤ m) → length (each_below n g) ≤ n * m
@@ -203,11 +204,11 @@ module _ (sc : ScenarioOf) (ok : IsScenario sc) where
       is ∙ ap (tallies sc.topo.nodes (window_of sc)) (sym (ap (rows_upto f) e ∙ first_rows (fleet_of sc) (let x = ok.topo.ranges.limit_from in omega arith)))
 
   -- the charge fits
-  pub tally_fits : (k : ℕ) (t : TallyOf) → sc.to ≤ sc.topo.limit → t ≡ tally_of (window_of sc) (run_rows f) k → 8 * (t.window.1 - t.window.0) + (ended t).asleep + 512 * t.sent < 2 ^ 64
+  pub tally_fits : (k : ℕ) (t : TallyOf) → sc.to ≤ sc.topo.limit → t ≡ tally_of (window_of sc) (run_rows f) k → AWAKE_CHARGE * (t.window.1 - t.window.0) + (ended t).asleep + SENT_CHARGE * t.sent < 2 ^ 64
   tally_fits k t within e = rw e fits
     where
-      fits : 8 * ((tally_of (window_of sc) (run_rows f) k).window.1 - (tally_of (window_of sc) (run_rows f) k).window.0) + (ended (tally_of (window_of sc) (run_rows f) k)).asleep
-          + 512 * (tally_of (window_of sc) (run_rows f) k).sent < 2 ^ 64
+      fits : AWAKE_CHARGE * ((tally_of (window_of sc) (run_rows f) k).window.1 - (tally_of (window_of sc) (run_rows f) k).window.0) + (ended (tally_of (window_of sc) (run_rows f) k)).asleep
+          + SENT_CHARGE * (tally_of (window_of sc) (run_rows f) k).sent < 2 ^ 64
       fits =
           let limit : sc.topo.limit ≤ LAST_CYCLE = ok.topo.ranges.limit_to in
           let rows = few in

@@ -8,6 +8,7 @@ use Rattle.world_core.specs.declared.link_table.Link.{Link}
 use Rattle.world_core.specs.Topology.{HasRanges, IsNewLink, IsTopology, is_linked}
 use Rattle.world_core.proofs.Links.{contains_from, any_from}
 use Rattle.sample_maker.specs.Network.{IsNext, link_from, ring_links, ring_topology}
+use Rattle.air_base.specs.declared.bounds.TheConstants.{MOST_NODES}
 
 abbrev links_by : Bool → ℕ → List Link
 links_by b nodes = if b then [] else map (link_from nodes) (range_with_len 0 nodes)
@@ -56,7 +57,7 @@ other_by nodes k several (inr h) =
 other : (nodes k : ℕ) → nodes ≢ 1 → k < nodes → IsOther nodes k
 other nodes k several h = other_by nodes k several (eq-or-lt_of_le (omega arith))
 
-ranges : (number nodes : ℕ) → 1 ≤ nodes → nodes ≤ 64 → HasRanges (ring_topology number nodes)
+ranges : (number nodes : ℕ) → 1 ≤ nodes → nodes ≤ MOST_NODES → HasRanges (ring_topology number nodes)
 ranges number nodes some few = record {
   nodes_from = some;
   nodes_to = few;
@@ -92,7 +93,7 @@ new_link nodes i d h =
           absurd (omega arith),
     )
 
-pub lawful : (number nodes : ℕ) → 1 ≤ nodes → nodes ≤ 64 → IsTopology (ring_topology number nodes)
+pub lawful : (number nodes : ℕ) → 1 ≤ nodes → nodes ≤ MOST_NODES → IsTopology (ring_topology number nodes)
 lawful number nodes some few = record { ranges = ranges number nodes some few; links = λ i d h. new_link nodes i d h }
 
 -- ---- who hears whom

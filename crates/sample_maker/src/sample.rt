@@ -4,6 +4,7 @@ ghost use Rattle.std.specs.List.{range_with_len};
 ghost use Rattle.scenario_file.specs.Scenario.{no_script};
 ghost use Rattle.node_runner.specs.Scenario.{IsScenario};
 ghost use Rattle.sample_maker.specs.Sample.{first_byte, rounds, image_of_node, sample};
+ghost use Rattle.air_base.specs.declared.bounds.TheConstants.{MOST_NODES};
 
 use crate::network::ring_topology;
 use crate::ring::ring_image;
@@ -60,7 +61,7 @@ fn no_scripts(alloc: Global, nodes: u8) -> Result<Vec<Script>, NoMemory>
 #[tactic(auto, unfolding(crate::specs::Sample::sample))]
 pub fn make(alloc: Global, number: u16, nodes: u8) -> Result<Scenario, NoMemory>
     requires some { 1 ≤ nodes }
-    requires few { nodes ≤ 64 }
+    requires few { nodes ≤ MOST_NODES }
     ensures value { IfOk result (λ scenario. scenario ≡ sample number nodes) }
     ensures sound { IfOk result (λ scenario. IsScenario scenario) }
 {

@@ -13,6 +13,7 @@ use Rattle.scenario_file.proofs.Lists.{length_map}
 use Rattle.scenario_file.proofs.Scripts.{total_most, few_sum}
 use Rattle.scenario_file.proofs.Clean.{Clean}
 use Rattle.scenario_file.proofs.Topologies.{top_row}
+use Rattle.scenario_file.specs.declared.ranges.TheConstants.{WIDEST_WINDOW}
 
 script_count : (n : ℕ) (ds : List Data) → length (scripts_below n ds) ≡ n
 unfolding scripts_below
@@ -21,11 +22,11 @@ script_count (suc n) ds = let a = length-append (scripts_below n ds) (script_for
 
 -- a window of a run of so many cycles
 abbrev IsWindow : ℕ → ℕ × ℕ → Type 0
-IsWindow cycles w = (w.0 ≤ w.1) × (w.1 ≤ cycles) × (w.1 - w.0 ≤ 20000)
+IsWindow cycles w = (w.0 ≤ w.1) × (w.1 ≤ cycles) × (w.1 - w.0 ≤ WIDEST_WINDOW)
 
-pair_case : (cycles a b : ℕ) → (nat_le a b && nat_le b cycles && nat_le (b - a) 20000) ≡ true → (a ≤ b) × (b ≤ cycles) × (b - a ≤ 20000)
+pair_case : (cycles a b : ℕ) → (nat_le a b && nat_le b cycles && nat_le (b - a) WIDEST_WINDOW) ≡ true → (a ≤ b) × (b ≤ cycles) × (b - a ≤ WIDEST_WINDOW)
 pair_case cycles a b h =
-    let p = and_parts (nat_le a b && nat_le b cycles) (nat_le (b - a) 20000) h in
+    let p = and_parts (nat_le a b && nat_le b cycles) (nat_le (b - a) WIDEST_WINDOW) h in
     let q = and_parts (nat_le a b) (nat_le b cycles) p.0 in
     (grind (arith, nat_tests, q.0), grind (arith, nat_tests, q.1), grind (arith, nat_tests, p.1))
 

@@ -1,7 +1,7 @@
 -- The topology of a document without a fault is one.
 use Rattle.std.proofs.Common.{◌≡◌, ◌≢◌, ap, ℕ, zero, suc, ◌+◌, ◌<◌, ◌≤◌, ◌==◌, ◌&&◌, nat_lt, nat_le, Bool, true, false, pos, negsuc, List, [], ◌∷◌, ◌++◌, length, map, sum, Option, Some, None, is_some, codes, refl, sym, ◌∙◌, arith, lit≤}
 use Rattle.air_base.specs.Bounds.{LAST_CYCLE}
-use Rattle.air_base.specs.declared.bounds.TheConstants.{LONGEST_BYTE, SHORTEST_BYTE}
+use Rattle.air_base.specs.declared.bounds.TheConstants.{LONGEST_BYTE, LONGEST_LATENCY, SHORTEST_BYTE}
 use Rattle.std.specs.List.{All, AllPairs, list_all, list_any}
 use Rattle.std.specs.Option.{option_map_or}
 use Rattle.std.proofs.lemmas.Bool.{and_parts}
@@ -25,6 +25,7 @@ use Rattle.scenario_file.proofs.Numbers.{and4, number_bounds, node_bound}
 use Rattle.scenario_file.proofs.Lists.{length_map}
 use Rattle.scenario_file.proofs.LinkLists.{or_parts, keeps_from}
 use Rattle.scenario_file.proofs.Clean.{Early, Clean}
+use Rattle.scenario_file.specs.declared.defaults.TheConstants.{BYTE_TIME, LATENCY}
 
 -- ---- what a test of all elements says of their images
 all_map : {X Y : Type 0} (P : Y → Type 0) (f : X → Y) (p : X → Bool) → ((x : X) → p x ≡ true → P (f x)) → (xs : List X) → list_all p xs ≡ true → All P (map f xs)
@@ -185,12 +186,12 @@ topology_is ms clean =
     let e = clean.before in
     let v = version_of ms in
     let n = length (nodes ms) in
-    let latency = number_at (codes "latency") 3072 ms in
+    let latency = number_at (codes "latency") LATENCY ms in
     let t = top_row v n ms e.top in
     let c = whole_bounds 1 (most_cycles v) (get_member (codes "cycles") ms) e.cycles_there e.cycles_whole t.cycles in
     let m = most_long v in
-    let l = number_bounds 1 65535 3072 (get_member (codes "latency") ms) (lit≤ tt) (lit≤ tt) t.latency in
-    let b = number_bounds SHORTEST_BYTE LONGEST_BYTE 3072 (get_member (codes "byte_time") ms) (lit≤ tt) (lit≤ tt) t.byte_time in
+    let l = number_bounds 1 LONGEST_LATENCY LATENCY (get_member (codes "latency") ms) (lit≤ tt) (lit≤ tt) t.latency in
+    let b = number_bounds SHORTEST_BYTE LONGEST_BYTE BYTE_TIME (get_member (codes "byte_time") ms) (lit≤ tt) (lit≤ tt) t.byte_time in
     let count = length_map link_of (links ms) in
     let own = length_map (latency_of latency) (links ms) in
     let s = stands_in v n (length (map link_of (links ms))) (links ms) e.some (omega (arith, count)) e.links_in in
@@ -238,11 +239,11 @@ links_are ms e none = record {
 
 -- a topology made of equal parts
 pub topology_made : (ms : Members) (count cycles latency byte_time : ℕ) (ds : List Data) (ls : List Link) (own : List ℕ) (spans : List Span) → count ≡ length (nodes ms) → cycles ≡ number_at (codes "cycles") 0 ms
-    → latency ≡ number_at (codes "latency") 3072 ms → byte_time ≡ number_at (codes "byte_time") 3072 ms → ds ≡ links ms → ls ≡ map link_of ds → own ≡ map (latency_of latency) ds → spans ≡ spans_from 0 ds
+    → latency ≡ number_at (codes "latency") LATENCY ms → byte_time ≡ number_at (codes "byte_time") BYTE_TIME ms → ds ≡ links ms → ls ≡ map link_of ds → own ≡ map (latency_of latency) ds → spans ≡ spans_from 0 ds
     → topology count cycles latency byte_time ls own spans ≡ topology_of ms
 unfolding topology_of
 topology_made ms count cycles latency byte_time ds ls own spans n c l b rows are own_are spans_are =
     let all_links = are ∙ ap (map link_of) rows in
-    let all_own : own ≡ map (latency_of (number_at (codes "latency") 3072 ms)) (links ms) = own_are ∙ (λ i. map (latency_of (l i)) (rows i)) in
+    let all_own : own ≡ map (latency_of (number_at (codes "latency") LATENCY ms)) (links ms) = own_are ∙ (λ i. map (latency_of (l i)) (rows i)) in
     let all_spans = spans_are ∙ ap (spans_from 0) rows in
     λ i. topology (n i) (c i) (l i) (b i) (all_links i) (all_own i) (all_spans i)

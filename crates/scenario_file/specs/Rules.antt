@@ -17,6 +17,7 @@ use Rattle.scenario_file.specs.declared.keys.Keys.{Keys}
 use Rattle.scenario_file.specs.declared.keys.Keys.TheVariants.{Top, OfNode, OfLink, OfInput}
 use Rattle.scenario_file.specs.declared.keys.Version.{Version}
 use Rattle.scenario_file.specs.declared.keys.Version.TheVariants.{First, Second, Third}
+use Rattle.scenario_file.specs.declared.ranges.TheConstants.{WIDEST_WINDOW}
 
 -- ---- the version: the whole numbers 2 and 3 name theirs, and all else has the rules of version 1
 abbrev pub version_numbered : ℕ → Version
@@ -108,7 +109,7 @@ is_hex _ = true
 -- a window of a run of so many cycles: from a number to one not below it, both at most the cycles, and 20,000 cycles
 -- wide at most
 abbrev pub is_window_pair : ℕ → Option (ℕ × ℕ) → Bool
-is_window_pair cycles (Some p) = nat_le p.0 p.1 && nat_le p.1 cycles && nat_le (p.1 - p.0) 20000
+is_window_pair cycles (Some p) = nat_le p.0 p.1 && nat_le p.1 cycles && nat_le (p.1 - p.0) WIDEST_WINDOW
 is_window_pair cycles None = false
 
 abbrev pub is_window : ℕ → Data → Bool

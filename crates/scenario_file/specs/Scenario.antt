@@ -12,6 +12,7 @@ use Rattle.scenario_file.specs.Faults.{nodes, links, inputs, link_of, node_of, d
 use Rattle.scenario_file.specs.declared.defaults.TheConstants.{BYTE_TIME, EVERY, LATENCY}
 use Rattle.scenario_file.specs.declared.fault.ScenarioFault.{ScenarioFault}
 use Rattle.scenario_file.specs.declared.fault.ScenarioFault.TheVariants.{NotToml}
+use Rattle.scenario_file.specs.declared.ranges.TheConstants.{WIDEST_WINDOW}
 
 pub record ScenarioParts : Type 0 where
   pub topology : Topology
@@ -114,4 +115,4 @@ pub record IsScenario (p : ScenarioParts) : Type 0 where
   pub few_bytes : sum (map script_size p.scripts) ≤ MOST_ARRIVALS
   pub window : p.window.0 ≤ p.window.1
   pub within : p.window.1 ≤ p.topology.limit
-  pub narrow : p.window.1 - p.window.0 ≤ 20000
+  pub narrow : p.window.1 - p.window.0 ≤ WIDEST_WINDOW

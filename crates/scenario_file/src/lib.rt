@@ -18,4 +18,5 @@ mod text;
 
 pub use defaults::{BYTE_TIME, LATENCY, no_script};
 pub use fault::ScenarioFault;
+pub use ranges::WIDEST_WINDOW;
 pub use text::{ScenarioText, read};

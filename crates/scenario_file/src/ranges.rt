@@ -11,6 +11,9 @@ use crate::document::{natural, pair_of};
 use air_base::LAST_CYCLE;
 use toml::Value;
 
+/// The most cycles of a window, in which instructions are traced.
+pub const WIDEST_WINDOW: u64 = 20_000;
+
 /// A number in a range.
 pub fn fits(least: u64, most: u64, value: &Value) -> bool
     ensures { result ≡ fits least most (view value.now) }
@@ -66,7 +69,7 @@ pub fn is_window(cycles: u64, value: &Value) -> bool
 {
     match pair_of(value) {
         Some((first, last)) => {
-            (first <= last) & (last <= cycles) & (last.saturating_sub(first) <= 20_000)
+            (first <= last) & (last <= cycles) & (last.saturating_sub(first) <= WIDEST_WINDOW)
         }
         None => false,
     }

@@ -5,9 +5,10 @@ use Rattle.world_core.specs.Chain.{LogFacts, Rises}
 use Rattle.world_core.specs.Kept.{is_kept}
 use Rattle.send_order.specs.Order.{AreOrdered}
 use Rattle.fleet_flight.proofs.record.kept_sends.Goals as goal
+use Rattle.air_base.specs.declared.bounds.TheConstants.{MOST_NODES}
 
 pub record_of-requires-clause-nodes : goal.record_of-requires-clause-nodes
-record_of-requires-clause-nodes c = subst (All (λ (x : Send). x.node < 64)) (sym c.sends-all.ensures) c.requires.nodes
+record_of-requires-clause-nodes c = subst (All (λ (x : Send). x.node < MOST_NODES)) (sym c.sends-all.ensures) c.requires.nodes
 
 pub record_of-requires-clause-rises : goal.record_of-requires-clause-rises
 record_of-requires-clause-rises c = subst Rises (sym c.sends-all.ensures) c.requires.rises

@@ -6,6 +6,7 @@ use Rattle.moves_text.specs.Moves.{room_behind}
 use Rattle.moves_text.specs.declared.room.Room.{Room}
 use Rattle.moves_text.proofs.Lines.{fails_on, fewer_words, no_more, no_stretch, one_stretch, stretch_fails}
 use Rattle.moves_text.proofs.reading.stretches_in.Goals as goal
+use Rattle.serial_ports.specs.declared.stretch.TheConstants.{MOST_ARRIVALS}
 
 pub returns-in_err-stretch : goal.returns-in_err-stretch
 returns-in_err-stretch c =
@@ -27,7 +28,7 @@ loop-stretches-preserved c =
     let one = c.in_ok-stretch.ensures.exact ∙ ap (λ (o : Option (StretchBytes × Room)). Ok (option_map (λ x. (x.0, c.next_stretch.new.words)) o)) c.in-Some.is in
     let next : c.in-Some.behind ≡ room_behind c.loop-stretches.room c.in-Some.stretch =
     subst (λ (o : Option (StretchBytes × Room)). IfSome o (λ x. x.1 ≡ room_behind c.loop-stretches.room x.0)) c.in-Some.is c.in_ok-stretch.ensures.behind in
-    let few : c.in-Some.behind.bytes ≤ 65536 = subst (λ (o : Option (StretchBytes × Room)). IfSome o (λ x. x.1.bytes ≤ 65536)) c.in-Some.is c.in_ok-stretch.ensures.few in
+    let few : c.in-Some.behind.bytes ≤ MOST_ARRIVALS = subst (λ (o : Option (StretchBytes × Room)). IfSome o (λ x. x.1.bytes ≤ MOST_ARRIVALS)) c.in-Some.is c.in_ok-stretch.ensures.few in
     record {
       read =
           rw c.in_ok-push.ensures.items

@@ -12,14 +12,15 @@ use Rattle.checkpoint_text.specs.Paused.{IsSaved}
 use Rattle.fleet_flight.proofs.Epoch.{first_paused}
 use Rattle.checkpoint_text.proofs.Sized.{all_sized}
 use Rattle.checkpoint_text.proofs.saved.Saved.new.Goals as goal
+use Rattle.air_base.specs.declared.bounds.TheConstants.{MOST_NODES}
 
 pub record_of-requires-clause-nodes : goal.record_of-requires-clause-nodes
 record_of-requires-clause-nodes c =
     let st : StateOf = c.args.state.now in
     let sends : c.deref.result.now ≡ st.sends = c.deref.ensures.value ∙ ap (λ (s : StateOf). s.sends) c.state.view_is in
     let most = c.lawful_topo.ensures.sound.topo.ranges.nodes_to in
-    subst (All (λ (x : Send). x.node < 64)) (sym sends)
-    (All-weaker (λ (x : Send). (x.node < c.args.scenario.now.topo.nodes) × (x.cycle < st.cycle)) (λ (x : Send). x.node < 64) (λ x h. (let n = h.0 in omega arith)) st.sends c.requires.sends)
+    subst (All (λ (x : Send). x.node < MOST_NODES)) (sym sends)
+    (All-weaker (λ (x : Send). (x.node < c.args.scenario.now.topo.nodes) × (x.cycle < st.cycle)) (λ (x : Send). x.node < MOST_NODES) (λ x h. (let n = h.0 in omega arith)) st.sends c.requires.sends)
 
 pub invariant_of-result : goal.invariant_of-result
 invariant_of-result c =

@@ -10,13 +10,14 @@ use Rattle.node_runner.specs.Run.{RunAt, kept_at}
 use Rattle.send_order.specs.Order.{AreOrdered}
 use Rattle.fleet_plain.proofs.Kept.{kept}
 use Rattle.fleet_plain.proofs.plain.PlainRun.sends.Goals as goal
+use Rattle.air_base.specs.declared.bounds.TheConstants.{MOST_NODES}
 
 pub kept_sends-requires-clause-nodes : goal.kept_sends-requires-clause-nodes
 kept_sends-requires-clause-nodes c =
     let i = c.self.inside in
     let calm : i.failed ≡ false = ap (λ (r : RunAt). r.failed) c.self.view_is ∙ c.requires.sound in
     let most = c.self.invariant.scenario.topo.ranges.nodes_to in
-    All-weaker (λ (x : Send). (x.node < i.scenario.value.topo.nodes) × (x.cycle < i.floor)) (λ (x : Send). x.node < 64) (λ x h. (let n = h.0 in omega arith)) i.log.sends (c.self.invariant.paused calm).inside
+    All-weaker (λ (x : Send). (x.node < i.scenario.value.topo.nodes) × (x.cycle < i.floor)) (λ (x : Send). x.node < MOST_NODES) (λ x h. (let n = h.0 in omega arith)) i.log.sends (c.self.invariant.paused calm).inside
 
 pub kept_sends-requires-clause-rises : goal.kept_sends-requires-clause-rises
 kept_sends-requires-clause-rises c =
