@@ -100,7 +100,8 @@ class Room:
     def key(self, crate):
         """The sum of all that a crate is made from; none where a library below it is not made."""
         below = []
-        for name in names_below(crate, self.crates):
+        # by name: the order of the crates depends on the program that is asked for
+        for name in sorted(names_below(crate, self.crates)):
             record = self.record_of_these(self.crates[name])
             if record is None:
                 return None
