@@ -209,6 +209,7 @@ impl Member {
         ensures on { GoesOn N.table N.world epoch.now.scenario.now N.floor epoch.now.end self.old self.new }
         ensures once { sampling ≡ Tries → LooksOnce self.old.air self.new.air }
         ensures over { result ≡ true → IsOver epoch.now.end self.new }
+        ensures halted { self.old.halted ≡ true → result ≡ true }
         ensures gets_on { result ≡ false → self.new.halted ≡ false → HasGotOn sampling epoch.now.end self.old.runner self.new.runner }
     {
         if self.halted {
