@@ -576,6 +576,26 @@ class Later(OfARepository):
         self.assertIn("avrora: crates/low: a source was changed while it was proved, so nothing of it is kept", err)
         self.assert_proves(self.ALL)
 
+    def test_what_is_kept_depends_on_no_program(self):
+        """A crate below two programs is kept for both, whichever of its libraries each of them names first."""
+        lines = ["low:", "middle:", "high: low middle", "one: low high", "other: middle high"]
+        (self.top / "crates.txt").write_text("\n".join(lines), encoding="utf-8")
+        for name in ("high", "one", "other"):
+            fake_kit.write(self.top / f"crates/{name}/src/lib.rt", "// nothing\n")
+        kit = mock.Mock(identity="a kit")
+        for name in ("low", "middle"):
+            shutil.rmtree(self.room / f"{name}.rlib", ignore_errors=True)
+            (self.room / f"{name}.rlib").write_text(name, encoding="utf-8")
+        keys = set()
+        for program in ("one", "other"):
+            below = crates.crates_below(program, str(self.top))
+            kept = room.Room(str(self.room), kit, below)
+            for name in ("low", "middle"):
+                kept.mark(below[name])
+            keys.add(kept.key(below["high"]))
+        self.assertEqual(len(keys), 1)
+        self.assertNotIn(None, keys)
+
     def test_all_is_on_the_disk_before_it_is_noted(self):
         """The program and what is noted of it are synced before the note stands under its name."""
         done = []
