@@ -165,6 +165,9 @@ over "watch of 64 bytes, a cycle" 10000 529 "$(($(spanned watch 12000 bytes) - h
 { head -n 1 "$work/bytes" && seq 32768 32831 | xargs printf '0 at %04X\n'; } >"$work/mixed"
 h=$(spanned watch 2000 mixed)
 over "watch of a byte and 64 instructions, a cycle" 10000 535 "$(($(spanned watch 12000 mixed) - h))"
+sed 1d "$work/mixed" >"$work/instructions"
+h=$(spanned watch 2000 instructions)
+over "watch of 64 instructions, a cycle" 10000 535 "$(($(spanned watch 12000 instructions) - h))"
 
 printf 'ldi r16, 0x20\nout 0x35, r16\nagain:\nsleep\nrjmp again\n' >"$work/probe.s"
 "$program" asm "$work/probe.s" >"$work/probe.hex"

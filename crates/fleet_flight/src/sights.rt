@@ -66,13 +66,14 @@ fn keys_of(alloc: Global, places: &[Place]) -> Result<Vec<u16>, NoMemory>
     Ok(keys)
 }
 
-// The first place that is a byte of the SRAM; how many places there are, where none is.
-fn first_of_sram(places: &[Place]) -> usize
+// The first place that is a byte of the SRAM or an instruction; how many places there are, where none is.
+fn first_sight(places: &[Place]) -> usize
     requires { All (λ p. IsSpot p.spot) places.now }
     ensures { result ≤ length places.now }
 {
     for k in 0..places.len() {
-        if is_of_sram(places[k].spot) {
+        let spot = places[k].spot;
+        if is_of_sram(spot) || is_instruction(spot) {
             return k;
         }
     }
@@ -114,7 +115,7 @@ pub fn sights_of(alloc: Global, places: &[Place]) -> Result<Sights, NoMemory>
     ensures { IfOk result (λ v. AreGrouped places.now v) }
 {
     let keys = keys_of(alloc, places)?;
-    let sram = first_of_sram(places);
+    let sram = first_sight(places);
     let at = end_of_sram(places, sram);
     if are_instructions(places, at) {
         return Ok(Sights { keys, sram, at });
