@@ -167,7 +167,7 @@ h=$(spanned watch 2000 mixed)
 over "watch of a byte and 64 instructions, a cycle" 10000 535 "$(($(spanned watch 12000 mixed) - h))"
 sed 1d "$work/mixed" >"$work/instructions"
 h=$(spanned watch 2000 instructions)
-over "watch of 64 instructions, a cycle" 10000 535 "$(($(spanned watch 12000 instructions) - h))"
+over "watch of 64 instructions, a cycle" 10000 528 "$(($(spanned watch 12000 instructions) - h))"
 
 printf 'ldi r16, 0x20\nout 0x35, r16\nagain:\nsleep\nrjmp again\n' >"$work/probe.s"
 "$program" asm "$work/probe.s" >"$work/probe.hex"
