@@ -61,7 +61,8 @@ class Bodies(unittest.TestCase):
         (self.crate / "src").mkdir(parents=True)
         self.path = self.crate / "src" / "door.rt"
         self.path.write_text(SOURCE, encoding="utf-8")
-        self.functions = made.functions_of(self.path, made.module_of(self.path, self.crate / "src"))
+        self.source = self.crate / "src"
+        self.functions = made.functions_of(self.path, made.module_of(self.path, self.source), made.homes_of(self.source))
         self.wrongs = list(made.wrong_bodies(self.functions, made.variants_of(self.crate / "src")))
 
     def tearDown(self):
@@ -79,6 +80,13 @@ class Bodies(unittest.TestCase):
 
     def test_functions_have_the_checkers_names(self):
         self.assertEqual([(it.name, it.result) for it in self.functions], [("door::DoorGate::is_open", "bool"), ("door::step", "")])
+
+    def test_a_function_of_a_type_has_its_types_module(self):
+        other = self.source / "opening.rt"
+        other.write_text("impl Door {\n    fn open(&mut self) {\n        self.open = true;\n    }\n}\n", encoding="utf-8")
+        self.path.write_text("pub struct Door {\n    open: bool,\n}\n" + SOURCE, encoding="utf-8")
+        found = made.functions_of(other, made.module_of(other, self.source), made.homes_of(self.source))
+        self.assertEqual([it.name for it in found], ["door::Door::open"])
 
     def test_each_kind_of_body_is_made(self):
         kinds = {it.what for it in self.wrongs}

@@ -38,6 +38,7 @@ FN = re.compile(r"^(\s*)(?:pub(?:\([^)]*\))? )?(?:const )?fn (\w+)")
 IMPL = re.compile(r"^impl(?:<.*?>)? (?:(\w+)(?:<.*?>)? for )?(\w+)(?:<.*?>)? \{$")
 TRAIT = re.compile(r"^(?:pub(?:\([^)]*\))? )?trait (\w+)\b.*\{$")
 CONST = re.compile(r"^(\s*)(?:pub(?:\([^)]*\))? )?const (\w+): (\w+) = ([\d_]+|u\d+::MAX);$")
+TYPE = re.compile(r"^(?:pub(?:\([^)]*\))? )?(?:struct|enum) (\w+)\b")
 ENUM = re.compile(r"^(?:pub(?:\([^)]*\))? )?enum (\w+)\b.*\{$")
 VARIANT = re.compile(r"^    (\w+),$")
 NUMBER = re.compile(r"(?<![\w.'\"])(\d[\d_]*)(?![\w'\"])")
@@ -96,16 +97,27 @@ def result_of(lines):
     return found[1].strip() if found else ""
 
 
-def functions_of(path, module):
+def homes_of(source):
+    """The module of each type of the crate: the checker names a function of a type by it, wherever its `impl` stands."""
+    return {
+        it[1]: module_of(path, source)
+        for path in sorted(source.rglob("*.rt"))
+        for line in path.read_text(encoding="utf-8").split("\n")
+        if (it := TYPE.match(line))
+    }
+
+
+def functions_of(path, module, homes):
     """The functions of a file that is laid out as `rt fmt` does it: a body ends where a brace stands as far in as its head."""
     lines, owner, found = path.read_text(encoding="utf-8").split("\n"), "", []
+    home = module
     for at, line in enumerate(lines):
         if it := IMPL.match(line):
-            owner = it[2] + (it[1] or "")
+            owner, home = it[2] + (it[1] or ""), homes.get(it[2], module)
         elif it := TRAIT.match(line):
-            owner = it[1]
+            owner, home = it[1], module
         elif line == "}":
-            owner = ""
+            owner, home = "", module
         if not (it := FN.match(line)) or lines[max(at - 1, 0)].strip() == "#[test]":
             continue
         indent, name = it[1], it[2]
@@ -117,7 +129,7 @@ def functions_of(path, module):
             opens = next((k for k in range(at, last) if lines[k].startswith(f"{indent})") and lines[k].endswith("{")), None)
         if opens is None:
             continue
-        parts = [it for it in (module, owner if indent else "", name) if it]
+        parts = [it for it in (home if indent else module, owner if indent else "", name) if it]
         found.append(Function(path, "::".join(parts), opens + 1, last, result_of(lines[at : opens + 1]), lines[opens + 1 : last]))
     return found
 
@@ -436,7 +448,8 @@ def main():
         words.error(f"{given.crate} is not a crate")
     source = crate / "src"
     files = sorted(source.rglob("*.rt"))
-    functions = [it for path in files for it in functions_of(path, module_of(path, source))]
+    homes = homes_of(source)
+    functions = [it for path in files for it in functions_of(path, module_of(path, source), homes)]
     asked = [it for it in functions if given.only in it.name]
     wrongs = list(wrong_bodies(asked, variants_of(source)))
     wrongs += [it for path in files for it in wrong_constants(path, asked) if given.only in it.function.name]
