@@ -114,7 +114,7 @@ class TraceReader:
         """An instruction or entry row: the window begins or goes on, where none is named."""
         self.traced = self.traced[0] if self.traced else cycle, cycle
         if self.scenario and self.first is not None and self.end is not None and not self.first <= cycle < self.end:
-            self.first, self.end = min(self.first or cycle, cycle), math.inf  # not the scenario's; `bound` bounds it
+            self.first, self.end = min(self.first, cycle), math.inf  # not the scenario's; `bound` bounds it
         self.first = cycle if self.first is None else self.first
         self.sends += self.late_sends
         self.late_sends.clear()

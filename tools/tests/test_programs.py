@@ -287,6 +287,15 @@ class Profile(unittest.TestCase):
             with self.subTest(first):
                 self.assertEqual(self.of_scenario(first, end, self.PART), "0 13 9 28 0 625".split())
 
+    def test_a_stop_before_the_first_instruction_of_another_window(self):
+        """What lies before that window is no part of it, also where the scenario's own begins at reset."""
+        scenario = 'cycles = 2_000\nwindow = [{}, 400]\nnode = [{{image = "a"}}, {{image = "a"}}]\n'
+        trace = "1110 0 stop 0010 adc\n1110 1 instr 0010 nop\n1160 0 end 3 stopped\n1160 1 end 9 running\n"
+        for first in (0, 100):
+            with scratch("net.toml", scenario.format(first)) as path:
+                rows = self.profile("-s", path, trace=trace)[1:3]
+            self.assertEqual(rows, ["0 0 0 50 0 0".split(), "1 50 0 0 0 400".split()])
+
     def test_no_further_than_the_trace(self):
         self.assertEqual(self.profile("--window", "1100..1200", trace=self.PART)[1], "0 13 9 28 10 625".split())
 
