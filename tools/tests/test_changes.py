@@ -1,5 +1,5 @@
-"""Changes of variables in runs. firmware/watched.c says what is written in which order; in which cycle says the trace, by the
-instructions that store: a second opinion, as `watch` is not asked for it."""
+"""Changes of variables in runs. firmware/watched.c says what is written in which order; in which cycle says the trace,
+by the instructions that store: a second opinion, as `watch` is not asked for it."""
 import re
 import subprocess
 
@@ -106,7 +106,9 @@ def test_torn_values_are_told_byte_by_byte(folder):
 def test_a_span_has_the_changes_of_the_whole_in_it(folder):
     whole = changes(folder, "-w", "*", "-w", "SREG.I")
     cut = whole[len(whole) // 2][0]
-    parts = [changes(folder, "-w", "*", "-w", "SREG.I", *words) for words in (["--until", str(cut)], ["--from", str(cut)])]
+    parts = [
+        changes(folder, "-w", "*", "-w", "SREG.I", *words) for words in (["--until", str(cut)], ["--from", str(cut)])
+    ]
     assert parts[0] + parts[1] == whole and all(parts)
 
 

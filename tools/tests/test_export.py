@@ -241,7 +241,9 @@ def test_lcov_has_what_ran():
 def test_lcov_has_a_function_in_the_file_that_declares_it(tmp_path):
     """The first code of `main` is that of an inlined function of another file."""
     (tmp_path / "radio.h").write_text("#include <avr/io.h>\nstatic inline void begin(void)\n{\n    PORTB = 1;\n}\n")
-    (tmp_path / "send.c").write_text('#include "radio.h"\n\nint main(void)\n{\n    begin();\n    for (;;)\n        PINB;\n}\n')
+    (tmp_path / "send.c").write_text(
+        '#include "radio.h"\n\nint main(void)\n{\n    begin();\n    for (;;)\n        PINB;\n}\n'
+    )
     program = Program(str(compiled(tmp_path / "send.c", tmp_path, "-Os")))
     main = next(function.first for function in program.functions if function.name == "main")
     covered = coverage.Covered()
@@ -271,7 +273,9 @@ def test_genhtml_reads_it():
 def test_what_wants_a_program_says_so():
     for form in ("callgrind", "folded", "speedscope", "lcov"):
         assert "needs the program (-e)" in exported(form, RELAY[0], RELAY[-1], status=2)
-    assert "export pcapng -s packet.toml -o packet.pcapng packet.trace" in exported("--help")  # flood.toml sends no packets
+    assert "export pcapng -s packet.toml -o packet.pcapng packet.trace" in exported(
+        "--help"
+    )  # flood.toml sends no packets
     assert "needs the scenario (-s)" in exported("pcapng", RELAY[-1], status=2)
     assert "needs the scenario (-s)" in exported("perfetto", RELAY[-1], status=2)
 
@@ -373,8 +377,8 @@ def written(rows, wants_bytes=False):
     return packets(b"".join(writer.written(events))), writer
 
 
-# Node 0 sends AA AA 7E 01 55, a byte each 1,000 cycles; node 2 hears all of it, except that the fourth byte clashes with
-# one of node 1.
+# Node 0 sends AA AA 7E 01 55, a byte each 1,000 cycles; node 2 hears all of it, except that the fourth byte clashes
+# with one of node 1.
 SENDS = [(1_000 * (at + 1), 0, f"sent {byte}") for at, byte in enumerate("AA AA 7E 01 55".split())]
 SAMPLES = [
     (1_500, 2, "heard 1 AA 25"),
@@ -474,7 +478,9 @@ def test_a_time_of_a_slow_clock_is_exact():
     with scratch("net.toml", NETWORK) as path:
         writer = pcapng.Packets(Scenario.load(path), 1_000, wants_bytes=True)
     last = (1 << 40) - 1
-    assert [at for _, at, _, _, _ in packets(b"".join(writer.written([(last, 0, event_of("sent AA"))])))] == [last * 10**6]
+    assert [
+        at for _, at, _, _, _ in packets(b"".join(writer.written([(last, 0, event_of("sent AA"))])))
+    ] == [last * 10**6]
 
 
 @needs_program("capinfos", "tshark")
@@ -638,7 +644,9 @@ def test_parquet_is_given_each_row_in_groups(tmp_path, monkeypatch):
     text = exported("csv", f"{DATA}/relay.trace")
     for row, cells in zip(rows, csv.DictReader(io.StringIO(text)), strict=True):
         assert {name: "" if value is None else str(value) for name, value in row.items()} == cells
-        assert all(value is None or isinstance(value, int if kinds[name] == "int64" else str) for name, value in row.items())
+        assert all(
+            value is None or isinstance(value, int if kinds[name] == "int64" else str) for name, value in row.items()
+        )
 
 
 def test_parquet_without_its_library_is_refused_by_name(monkeypatch):

@@ -100,7 +100,8 @@ class Page(unittest.TestCase):
         self.assertEqual((status, node["asleep"], other["stop"]), (0, [11, 19], [70, "0098 reserved opcode"]))
 
     def test_no_row_tells_that_a_node_sleeps_from_the_window_on_to_its_stop(self):
-        """Relay's window ends in cycle 3,165. A stop within it ends a sleep, where an interrupt's entry is what stops."""
+        """Relay's window ends in cycle 3,165. A stop within it ends a sleep, where an interrupt's entry is what
+        stops."""
         for stop, asleep in ((50_000, [3_161, 4]), (3_163, [3_161, 2])):
             trace = f"3160 0 instr 0010 sleep\n{stop} 0 stop 0011 address past 0x10FF\n90000 0 end 3 stopped\n"
             trace += "".join(f"90000 {node} end 10 running\n" for node in range(1, 5))
@@ -207,7 +208,9 @@ document.body.innerHTML = `<pre>${[said, ways, began, ink, marks, next, document
         page = page_of("flood")
         own = pages.source_of(self.PROBE)
         probed = page.replace("script-src ", f"script-src {own} ", 1)
-        with scratch("page.html", f"{probed}<script>{self.PROBE}</script>") as path, tempfile.TemporaryDirectory() as profile:
+        with scratch(
+            "page.html", f"{probed}<script>{self.PROBE}</script>"
+        ) as path, tempfile.TemporaryDirectory() as profile:
             words = [
                 "chromium",
                 "--headless=new",
@@ -224,7 +227,9 @@ document.body.innerHTML = `<pre>${[said, ways, began, ink, marks, next, document
             said = f"ended with status {status}" if status > 0 else f"did not end in {BROWSER} s"
             self.skipTest(f"chromium {said}")
         said, ways, began, ink, marks, after, lost, _ = dump[dump.index("<pre>") + 5 :].split("|")
-        self.assertIn("node 6 flood: CLASH of node 2's 01 of 15,051, node 5's 01 of 15,046 in cycle 15,506 = 2.1031 ms", said)
+        self.assertIn(
+            "node 6 flood: CLASH of node 2's 01 of 15,051, node 5's 01 of 15,046 in cycle 15,506 = 2.1031 ms", said
+        )
         self.assertIn("avrora-tools window", said)
         self.assertEqual((ways, began, ink), ("2", "5266", "true"))
         self.assertIn("node 9 flood: CLASH of node 10's 01 of 17,099, node 13's 01 of 17,094", after)

@@ -1,7 +1,8 @@
 """Frames, or bytes, that nodes sent and heard as packets in the format pcapng, for Wireshark.
 
 An interface is a node. A packet's time is that of its last byte: the cycle in which it was sent, or of the sample that
-heard it first. Where that byte was lost, it is the cycle of its send, or of the last sample that heard one of the others
+heard it first. Where that byte was lost, it is the cycle of its send, or of the last sample that heard one of the
+others
 first, if that is later. So packets come in the order of time. The link type is USER0: the bytes from the frame's first
 AA on.
 """
@@ -86,7 +87,8 @@ class Ears:
 
 class Packets:
     """Turns the rows of a trace into packets, in the order of time. What it holds does not grow with the trace, except
-    while a node has begun a frame with another one in its bytes: that other one is a packet if the longer never ends."""
+    while a node has begun a frame with another one in its bytes: that other one is a packet if the longer never
+    ends."""
 
     def __init__(self, scenario: Scenario, hz: int, wants_bytes: bool) -> None:
         self.air, self.hz, self.wants_bytes = Air(scenario), hz, wants_bytes
