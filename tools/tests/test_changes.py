@@ -7,6 +7,7 @@ import pytest
 
 from avrora_tools.commands.vcd import words_of
 from avrora_tools.observing.quantities import Quantity
+from avrora_tools.states import EPOCH
 from avrora_tools.variables import UNSIGNED_CHAR, Base
 from firmware import PROGRAM, compiled, needs_compiler, needs_program
 from support import run_tool
@@ -292,7 +293,7 @@ def test_waves_of_a_head_go_on_behind_its_last_row(folder):
     (folder / "long.toml").write_text(text)
     found, times = waves_of_ticks(folder, "long.toml", ("--head", "1"))
     assert times == sorted(set(times))
-    assert found == ticks_of(folder, "long.toml", 262_144) and found[-1] > 300
+    assert found == ticks_of(folder, "long.toml", EPOCH) and found[-1] > 300
 
 
 def test_a_variable_has_a_wave_of_its_own_whatever_it_is_called():

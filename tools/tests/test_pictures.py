@@ -103,7 +103,7 @@ class Page(unittest.TestCase):
         """Relay's window ends in cycle 3,165. A stop within it ends a sleep, where an interrupt's entry is what
         stops."""
         for stop, asleep in ((50_000, [3_161, 4]), (3_163, [3_161, 2])):
-            trace = f"3160 0 instr 0010 sleep\n{stop} 0 stop 0011 address past 0x10FF\n90000 0 end 3 stopped\n"
+            trace = f"3160 0 instr 0010 sleep\n{stop} 0 stop 0011 reserved address\n90000 0 end 3 stopped\n"
             trace += "".join(f"90000 {node} end 10 running\n" for node in range(1, 5))
             status, page, err = run_tool("timeline", "-s", f"{DATA}/relay.toml", stdin=trace)
             self.assertEqual((status, err), (0, ""))
@@ -458,7 +458,7 @@ class Waves(unittest.TestCase):
         self.assertIn(f"#{(last * 10**12 + 3_686_400) // 7_372_800}\n", out)
 
     def test_a_stop_wakes_a_node_that_an_interrupt_woke(self):
-        trace = "10 0 instr 0010 sleep\n30 0 stop 0011 address past 0x10FF\n90 0 end 3 stopped\n"
+        trace = "10 0 instr 0010 sleep\n30 0 stop 0011 reserved address\n90 0 end 3 stopped\n"
         told = changes(run_tool("vcd", "-n", "0", stdin=trace)[1])
         asleep = [(time, value) for time, name, value in told if time and name == "node0.asleep"]
         self.assertEqual(asleep, [(10, "0"), (11, "1"), (30, "0")])

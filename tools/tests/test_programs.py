@@ -414,7 +414,7 @@ class Profile(unittest.TestCase):
     @pyelftools
     def test_calls(self):
         # main calls transfer (word 6A) at word F0, transfer returns; put (word 5A) is called from an interrupt's
-        # handler.
+        # handler, which comes before the second call's first instruction.
         trace = (
             "1 0 instr 00F0 call 0x006A\n5 0 instr 006A out 0x0F, r24\n6 0 instr 006E ret\n10 0 instr 00F2 nop\n"
             "11 0 instr 00F0 call 0x006A\n15 0 enter 0024 006A\n23 0 instr 0024 jmp 0x006F\n26 0 instr 006F push r1\n"
@@ -427,6 +427,6 @@ class Profile(unittest.TestCase):
             [["calls"]]
             + [
                 line.split()
-                for line in ("1 (interrupt) > USART0_RX_vect", "1 USART0_RX_vect > put", "1 main > transfer")
+                for line in ("2 main > transfer", "1 (interrupt) > USART0_RX_vect", "1 USART0_RX_vect > put")
             ],
         )
