@@ -135,8 +135,8 @@ def for_dask(name: str, shipment: Shipment) -> tuple[Any, Any, Any]:
                     return [socket.gethostname(), reason]
 
         def run_batch(self, jobs: bytes) -> bytes:
-            """Jobs and answers go through as they are pickled: dask looks into all else, which takes longer than a short
-            run."""
+            """Jobs and answers go through as they are pickled: dask looks into all else, which takes longer than a
+            short run."""
             with self.lock:
                 try:
                     self.connection.send_bytes(jobs)

@@ -180,7 +180,9 @@ def refuse_unwatched(name: str, statements: list[Statement], source: tuple[str, 
     """Raises BadInput where a condition is stated of what is not run here, and where a program is named for none."""
     stated = [statement for statement in statements if isinstance(statement, Condition)]
     if stated and (source is None or source[0] != "run"):
-        raise BadInput(f"{name}, line {stated[0].line}: a condition is judged over a run: write `run SCENARIO` above it")
+        raise BadInput(
+            f"{name}, line {stated[0].line}: a condition is judged over a run: write `run SCENARIO` above it"
+        )
     if elfs and not stated:
         raise BadInput(f"{name}: `elf` names a program, but no condition uses its variables")
 

@@ -59,6 +59,7 @@ class Lane:
         self.stop: list[tuple[int, str]] = []  # cycle, address and cause
         self.state = ""
         self.fell_asleep: int | None = None
+        self.stopped: int | None = None  # the cycle
         self.last_instruction: tuple[int, int] | None = None  # its cycle, its address
         self.where: dict[int, str] = {}  # by the cycle of an event: which line of source was executed
         self.tracks: list[Track] = []  # of variables and registers
@@ -168,7 +169,10 @@ class Drawing:
             lane.state = event.state
             return
         if isinstance(event, (Instr, Enter, Stop)):
-            self.note_sleep(lane, cycle, event)
+            if isinstance(event, Stop):
+                lane.stopped = cycle
+            else:
+                self.note_sleep(lane, cycle, event)
             if isinstance(event, Instr):
                 if self.programs:
                     self.programs.compare(node, event)
@@ -206,8 +210,8 @@ class Drawing:
             self.gap = min(gap, self.gap or gap)
         self.last_sent[node] = cycle
 
-    def note_sleep(self, lane: Lane, cycle: int, event: Instr | Enter | Stop) -> None:
-        """A node sleeps from behind its SLEEP to the interrupt that wakes it; none wakes it past the window."""
+    def note_sleep(self, lane: Lane, cycle: int, event: Instr | Enter) -> None:
+        """A node sleeps from behind its SLEEP to the interrupt that wakes it."""
         if lane.fell_asleep is not None:
             self.add_sleep(lane, lane.fell_asleep, cycle)
             lane.fell_asleep = None
@@ -215,9 +219,11 @@ class Drawing:
             lane.fell_asleep = cycle + 1
 
     def finish_sleep(self, lane: Lane) -> None:
-        """Ends a sleep that the trace leaves open."""
-        if lane.fell_asleep is not None and self.window[1] > lane.fell_asleep:
-            self.add_sleep(lane, lane.fell_asleep, self.window[1])
+        """Ends a sleep that the trace leaves open: where the node stops, or the window, behind which no row tells what
+        wakes it."""
+        if lane.fell_asleep is not None:
+            end = self.window[1] if lane.stopped is None else min(self.window[1], lane.stopped)
+            self.add_sleep(lane, lane.fell_asleep, end)
 
     def add_sleep(self, lane: Lane, first: int, end: int) -> None:
         first, end = max(first, self.first), end if self.end is None else min(end, self.end)

@@ -142,7 +142,9 @@ class DrawnGroup(Group):
             raise BadInput(f"{self.place}: draw({number}) ended with {said}") from None
         for name in found[1]:
             if not re.fullmatch(r"[A-Za-z0-9_-][A-Za-z0-9_.-]{0,99}", name):
-                raise BadInput(f"{self.place}: draw({number}) has an image {printable(name)}, which is not a plain name")
+                raise BadInput(
+                    f"{self.place}: draw({number}) has an image {printable(name)}, which is not a plain name"
+                )
         return found
 
     def scenario(self, values: Sequence[Any]) -> str:

@@ -96,7 +96,8 @@ class Report:
 
     @property
     def where(self) -> Where | None:
-        """Where one looks first: at the row that was not to come, or came instead; else at the one found last before."""
+        """Where one looks first: at the row that was not to come, or came instead; else at the one found last
+        before."""
         row = self.row or self.instead
         return Where(row[0], row[1]) if row else None
 

@@ -104,7 +104,9 @@ def places_of(text: str, name: str, count: int) -> list[Point]:
     for node in range(count):
         place = document.pop(str(node), None)
         if not isinstance(place, list) or len(place) != 2 or not all(is_coordinate(part) for part in place):
-            raise BadInput(f"{name}: a place such as {node} = [0.25, 1.0] is missing: each node needs one, from 0 to {count - 1}")
+            raise BadInput(
+                f"{name}: a place such as {node} = [0.25, 1.0] is missing: each node needs one, from 0 to {count - 1}"
+            )
         found.append((float(place[0]), float(place[1])))
     if document:
         raise BadInput(f"{name}: {next(iter(document))!r} is not a node: there are {count}")

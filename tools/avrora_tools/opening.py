@@ -16,8 +16,8 @@ class Where(NamedTuple):
 def debug_command(
     scenario: str, where: Where, elfs: Sequence[str] = (), state: str | None = None, images: str | None = None
 ) -> str:
-    """A line for a shell, from the folder in which this tool was called. `state`: the run begins there; `images`: the folder
-    of the images, where it is another one than the scenario's."""
+    """A line for a shell, from the folder in which this tool was called. `state`: the run begins there; `images`: the
+    folder of the images, where it is another one than the scenario's."""
     words = ["avrora-tools", "gdb", "--at", f"{where.cycle:_}", "--node", str(where.node)]
     words += [word for elf in elfs for word in ("-e", elf)]
     words += ["--state", state] if state else []

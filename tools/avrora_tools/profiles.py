@@ -73,7 +73,7 @@ class TraceReader:
         self.owners: dict[int, Owner] = {}
         self.calls: collections.Counter[Call] = collections.Counter()
         self.calling: dict[int, int | str] = {}  # by node what called, until the callee's first row
-        # By node the calls of whose callee an interrupt came first: the callee's word, and what called.
+        # By node the handlers before whose jump at the vector another interrupt came: the vector, and what called.
         self.interrupted: dict[int, list[tuple[int, int | str]]] = collections.defaultdict(list)
         self.returned: set[int] = set()  # nodes whose last row is RETI
         self.sends: collections.Counter[int] = collections.Counter()
@@ -92,8 +92,7 @@ class TraceReader:
             self.go_on(cycle)
             self.own(node, Owner(cycle, event))
             spent.vector[event.vector].count += 1
-            if (caller := self.calling.get(node)) is not None:
-                self.interrupted[node].append((event.back, caller))
+            self.note_interrupted(node, event.back)
             self.calling[node] = programs.vector_name(event.vector)
         elif isinstance(event, Stop):
             if self.end is None:
@@ -114,7 +113,7 @@ class TraceReader:
         """An instruction or entry row: the window begins or goes on, where none is named."""
         self.traced = self.traced[0] if self.traced else cycle, cycle
         if self.scenario and self.first is not None and self.end is not None and not self.first <= cycle < self.end:
-            self.first, self.end = min(self.first or cycle, cycle), math.inf  # not the scenario's; `bound` bounds it
+            self.first, self.end = min(self.first, cycle), math.inf  # not the scenario's; `bound` bounds it
         self.first = cycle if self.first is None else self.first
         self.sends += self.late_sends
         self.late_sends.clear()
@@ -146,6 +145,15 @@ class TraceReader:
 
     def charged(self, node: int, owner: Owner | None, cycles: int) -> None:
         """So many cycles of a node are their owner's: for readers that add up more than this one does."""
+
+    def note_interrupted(self, node: int, back: int) -> None:
+        """An interrupt comes before the code at `back`. If that was called, its call counts: the interrupt may never
+        return. What is called by way of the jump at a vector is not known yet."""
+        caller = self.calling.get(node)
+        if caller is not None and back in programs.VECTORS:
+            self.interrupted[node].append((back, caller))
+        elif caller is not None:
+            self.calls[node, caller, back] += 1
 
     def note_call(self, node: int, event: Instr) -> None:
         caller = self.calling.pop(node, None)

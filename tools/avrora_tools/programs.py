@@ -232,7 +232,8 @@ def declared_places(elf: Any) -> dict[int, SourceLine]:
 
 
 def line_programs(dwarf: Any) -> Iterator[tuple[Any, Any, list[str], int]]:
-    """Each compilation unit that has lines, with its line program, the paths of its files, and the number of the first."""
+    """Each compilation unit that has lines, with its line program, the paths of its files, and the number of the
+    first."""
     for unit in dwarf.iter_CUs():
         program = dwarf.line_program_for_CU(unit)
         if program is not None:

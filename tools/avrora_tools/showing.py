@@ -27,8 +27,8 @@ def shown(name: str) -> str:
 
 
 def printable(text: str) -> str:
-    """A text on one line, for a terminal or a log. What is not a letter, mark, digit, sign or plain space is told by its
-    number: controls, line breaks, marks of direction, characters that do not show, bytes that are no UTF-8
+    """A text on one line, for a terminal or a log. What is not a letter, mark, digit, sign or plain space is told by
+    its number: controls, line breaks, marks of direction, characters that do not show, bytes that are no UTF-8
     (`\\xff`); and so is the second sign of what begins a command to who reads the log, such as `##[`."""
     if not text.isprintable():
         text = "".join(character if character.isprintable() else escaped(character) for character in decoded(text))

@@ -41,7 +41,8 @@ class Progress:
     SECONDS_A_LINE = 0.5
 
     def __init__(self, prints: bool = False) -> None:
-        """`prints` is for tools that print as they read: they show progress only where their output is not a terminal."""
+        """`prints` is for tools that print as they read: they show progress only where their output is not a
+        terminal."""
         self.shows = os.isatty(2) and not (prints and os.isatty(1))
         self.shown_one = False
         self.next = time.monotonic() + self.SECONDS_A_LINE

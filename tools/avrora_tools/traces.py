@@ -379,8 +379,8 @@ def blocks_of(file: BinaryIO, name: str = "", prints: bool = False) -> Iterator[
 
 
 def file_blocks(name: str, prints: bool = False, is_named_by_file: bool = False) -> Iterator[bytes]:
-    """The content of the file `name`, or of the standard input. Raises BadInput where it cannot be read, and where another
-    file names it also where it is a device or a pipe."""
+    """The content of the file `name`, or of the standard input. Raises BadInput where it cannot be read, and where
+    another file names it also where it is a device or a pipe."""
     with files.opened_named(name) if is_named_by_file else files.opened(name) as file:
         blocks = blocks_of(file, name, prints)
         while True:

@@ -19,8 +19,8 @@ class Look(enum.Enum):
 
 @dataclass
 class Track:
-    """The values of one quantity of a node, by the cycle from which on it has them; the first stands at the beginning of
-    what is drawn. Each value is kept once: changes name it by its place."""
+    """The values of one quantity of a node, by the cycle from which on it has them; the first stands at the beginning
+    of what is drawn. Each value is kept once: changes name it by its place."""
 
     name: str
     look: Look

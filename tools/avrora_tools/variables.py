@@ -15,7 +15,9 @@ DATA_SPACE = 0x800000  # where avr-gcc's ELF files put the data space
 OP_ADDR = 0x03
 BOOLEAN, FLOAT, SIGNED, SIGNED_CHAR, UNSIGNED, UNSIGNED_CHAR = 0x02, 0x04, 0x05, 0x06, 0x07, 0x08
 SIGNED_FIXED, UNSIGNED_FIXED = 0x0D, 0x0E
-ENCODINGS = (BOOLEAN, FLOAT, SIGNED, SIGNED_CHAR, UNSIGNED, UNSIGNED_CHAR, SIGNED_FIXED, UNSIGNED_FIXED)  # of one number
+ENCODINGS = (
+    BOOLEAN, FLOAT, SIGNED, SIGNED_CHAR, UNSIGNED, UNSIGNED_CHAR, SIGNED_FIXED, UNSIGNED_FIXED
+)  # of one number
 
 # Of floating-point numbers by their bytes: how `struct` reads them, how many digits tell one from the next, and how
 # many bits the fraction has.

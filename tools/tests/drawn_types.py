@@ -153,7 +153,9 @@ class Drawer:
             name = self.random.choice(["", "routine", "const routine", "again", "pointer", "pointer_again"])
             return Drawn(kind, name, qualifier.replace("restrict", ""))
         targets = {
-            "pointer": ["uint8_t", "void", "const char", "struct opaque", "uint8_t *", "routine *", "const volatile int"],
+            "pointer": [
+                "uint8_t", "void", "const char", "struct opaque", "uint8_t *", "routine *", "const volatile int"
+            ],
             "flash": ["const __flash char", "const __flash uint16_t", "const __flash struct opaque"],
             "both": ["const __memx struct far", "const volatile __memx struct far"],
         }

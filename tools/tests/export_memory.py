@@ -3,8 +3,10 @@
 
     tools/tests/export_memory.py [CYCLES]     (else 100,000,000: 104,000 rows, and a million)
 
-AVRORA_PROGRAM names the simulator. The trace is that of two sensors that send packets all the time, with 10,000 cycles of
-instructions; its program is compiled by avr-gcc. Told are the peaks of the processes, in MiB, and how many bytes came."""
+AVRORA_PROGRAM names the simulator. The trace is that of two sensors that send packets all the time, with 10,000 cycles
+of
+instructions; its program is compiled by avr-gcc. Told are the peaks of the processes, in MiB, and how many bytes
+came."""
 import os
 import subprocess
 import sys
@@ -36,7 +38,9 @@ def make(folder, cycles):
     scenario = Path(folder, "long.toml")
     scenario.write_text(f"cycles = {cycles}\n{WINDOW}{kept}")
     with open(f"{folder}/long.trace", "wb") as trace:
-        subprocess.run([os.environ["AVRORA_PROGRAM"], "run", "--plain", scenario.name], cwd=folder, stdout=trace, check=True)
+        subprocess.run(
+            [os.environ["AVRORA_PROGRAM"], "run", "--plain", scenario.name], cwd=folder, stdout=trace, check=True
+        )
     with open(f"{folder}/long.trace", "rb") as trace:
         return sum(1 for _ in trace)
 
@@ -57,7 +61,9 @@ def main(cycles):
         elf = f"{folder}/packet.elf"
         words = ["avr-gcc", "-mmcu=atmega128", "-Os", "-gdwarf-2", "-o", elf, str(EXAMPLES / "packet.c")]
         subprocess.run(words, check=True)
-        subprocess.run(["avr-objcopy", "-j", ".text", "-j", ".data", "-O", "ihex", elf, f"{folder}/packet.hex"], check=True)
+        subprocess.run(
+            ["avr-objcopy", "-j", ".text", "-j", ".data", "-O", "ihex", elf, f"{folder}/packet.hex"], check=True
+        )
         found = {}
         for length in (cycles, TIMES * cycles):
             print(f"{length:,} cycles: {make(folder, length):,} rows", flush=True)

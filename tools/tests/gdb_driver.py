@@ -18,8 +18,8 @@ TEXT = re.compile(r'([~@&])("(?:[^"\\]|\\.)*")')
 
 
 class Answer(NamedTuple):
-    """What gdb says to a command: `done`, `stopped` or `error`, the rest of that line, the texts for a user, how long it
-    took in seconds, and all lines."""
+    """What gdb says to a command: `done`, `stopped` or `error`, the rest of that line, the texts for a user, how long
+    it took in seconds, and all lines."""
 
     word: str
     rest: str

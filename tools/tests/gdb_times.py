@@ -5,8 +5,8 @@
 
 Prints a line for each measure, in milliseconds: the median, the 95th percentile and the longest.
 
-Two networks of eight nodes over two simulated seconds, from examples/packet.c: as it stands, where nodes mostly sleep, and
-with a loop instead of sleep, where all eight execute all the time."""
+Two networks of eight nodes over two simulated seconds, from examples/packet.c: as it stands, where nodes mostly sleep,
+and with a loop instead of sleep, where all eight execute all the time."""
 import os
 import pathlib
 import random
@@ -54,7 +54,10 @@ def build(folder: pathlib.Path, name: str, sleeps: bool) -> None:
 def say(name: str, what: str, seconds: list[float]) -> None:
     ordered = sorted(1_000 * one for one in seconds)
     late = ordered[min(len(ordered) - 1, 95 * len(ordered) // 100)]
-    print(f"{name:7} {what:42} {statistics.median(ordered):8.1f} {late:8.1f} {ordered[-1]:8.1f}  of {len(ordered)}", flush=True)
+    print(
+        f"{name:7} {what:42} {statistics.median(ordered):8.1f} {late:8.1f} {ordered[-1]:8.1f}  of {len(ordered)}",
+        flush=True,
+    )
 
 
 def stand(gdb: Gdb, cycle: int) -> float:

@@ -1,4 +1,5 @@
-"""Firmware of rare forms (firmware/odd.c): naked handlers, tasks that take turns, jumps that compilers and people write,
+"""Firmware of rare forms (firmware/odd.c): naked handlers, tasks that take turns, jumps that compilers and people
+write,
 SREG kept in odd places. Of each a sweep's classes are compared with all moves, and what the tools tell of its rows with
 the rows.
 

@@ -101,8 +101,11 @@ VECTORS = {
     "__vector_12": "TIMER1_COMPA_vect",
     "__vector_15": "TIMER0_COMP_vect",
     "__vector_16": "TIMER0_OVF_vect",
+    "__vector_17": "SPI_STC_vect",
     "__vector_18": "USART0_RX_vect",
     "__vector_19": "USART0_UDRE_vect",
+    "__vector_20": "USART0_TX_vect",
+    "__vector_26": "TIMER3_COMPA_vect",
 }
 
 

@@ -71,6 +71,24 @@ def test_a_call_is_counted_whose_callee_an_interrupt_comes_before(tmp_path, flag
     assert differences(trace) == 0
 
 
+# By hand: a call, before whose callee comes an interrupt; before its jump at the vector comes another one.
+BEGINNING = b"0 0 instr 0110 call 0x0120\n4 0 enter 001E 0120\n8 0 enter 0018 001E\n12 0 instr 0018 jmp 0x0140\n"
+# Both handlers return, or the inner one jumps to where main goes on, as longjmp does.
+ENDS = {
+    "returns": b"15 0 instr 0140 reti\n19 0 instr 001E jmp 0x0130\n22 0 instr 0130 reti\n26 0 instr 0120 ret\n",
+    "jumps away": b"15 0 instr 0140 ijmp\n17 0 instr 0111 nop\n",
+}
+INNER, OUTER = ("TIMER1_COMPA_vect", 0x140), ("TIMER0_COMP_vect", 0x130)
+BEGUN = {"returns": [INNER, OUTER], "jumps away": [INNER]}
+
+
+@pytest.mark.parametrize("end", ENDS)
+def test_a_call_counts_also_where_the_interrupt_before_its_callee_never_returns(end):
+    trace = BEGINNING + ENDS[end] + b"40 0 end 7 running\n"
+    reader = profiles.read_trace(traces.Trace([trace], "t", traces.Form.WHOLE), None, None, programs.Programs([]))
+    assert reader.calls == {(0, caller, callee): 1 for caller, callee in [(0x110, 0x120), *BEGUN[end]]}
+
+
 def test_the_report_has_all_calls(tmp_path):
     elf = compiled("calls.c", tmp_path, "-Os")
     path = elf.with_suffix(".trace")

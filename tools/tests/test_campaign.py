@@ -76,7 +76,9 @@ stagger = [0, 30]
             [(link["from"], link["to"]) for link in first["link"]], [(0, 1), (1, 0), (0, 2), (2, 0), (1, 2), (2, 1)]
         )
         self.assertEqual([link.get("open") for link in first["link"]], [[[5, 9]]] + [None] * 5)
-        self.assertEqual([(it["at"], it["hex"]) for it in second["input"]], [(2_000, "00"), (2_030, "01"), (2_060, "02FF")])
+        self.assertEqual(
+            [(it["at"], it["hex"]) for it in second["input"]], [(2_000, "00"), (2_030, "01"), (2_060, "02FF")]
+        )
         self.assertEqual(first["link"], second["link"])
         self.assertNotEqual(first["link"], third["link"])
 

@@ -99,7 +99,9 @@ def test_check_that_cannot_say(body, sentence):
 
 # ---- outages
 
-THREE = SCENARIO.replace("[[input]]", '[[node]]\nimage = "a.hex"\n[[link]]\nfrom = 1\nto = 2\nopen = [[100, 900]]\n[[input]]')
+THREE = SCENARIO.replace(
+    "[[input]]", '[[node]]\nimage = "a.hex"\n[[link]]\nfrom = 1\nto = 2\nopen = [[100, 900]]\n[[input]]'
+)
 LAST = 2**40
 
 
@@ -123,7 +125,10 @@ def links_of(vary, place=0, scenario=THREE):
         ('"link.*.outage" = [[500, 600]]', 0, [[[0, 500], [600, LAST]], [[100, 500], [600, 900]]]),
         ('"node.1.outage" = [[500, 600]]', 0, [[[0, 500], [600, LAST]], [[100, 500], [600, 900]]]),
         ('"node.1.silent" = [[500, 600]]', 0, [None, [[100, 500], [600, 900]]]),
-        ('"node.0.outage" = [[500, 600]]\n"link.0-1.outage" = [[550, 700]]', 0, [[[0, 500], [700, LAST]], [[100, 900]]]),
+        (
+            '"node.0.outage" = [[500, 600]]\n"link.0-1.outage" = [[550, 700]]', 0,
+            [[[0, 500], [700, LAST]], [[100, 900]]],
+        ),
     ],
 )
 def test_outages(vary, place, links):
@@ -146,7 +151,10 @@ def test_the_name_of_an_outage():
         ('"link.0-1.outage" = [[200, 100]]', "is not a span such as"),
         ('"link.0-1.outage" = { from = 0, to = 9 }', "has no length of 1 and more"),
         ('"link.0-1.outage" = { from = 0, to = 9, length = 0 }', "has no length of 1 and more"),
-        ('"link.0-1.outage" = { from = 0, to = 2_000_000_000_000, step = 2_000_000_000_000, length = 1 }', "is not a span such as"),
+        (
+            '"link.0-1.outage" = { from = 0, to = 2_000_000_000_000, step = 2_000_000_000_000, length = 1 }',
+            "is not a span such as",
+        ),
         ('latency = { from = 1, to = 9, length = 5 }', "latency has no list of values"),
         ('"link.2-1.outage" = [[1, 2]]', "is of no link of the scenario"),
         ('"node.2.silent" = [[1, 2]]', "is of no link of the scenario"),
@@ -197,7 +205,9 @@ def test_drawn_values_of_very_many():
     assert len(set(found)) == 3 and max(found) > 2**30
 
 
-@pytest.mark.parametrize("words", [{"drawn": 0}, {"drawn": -1}, {"drawn": 2_000_000, "last": 10**8}, {"drawn": 5, "first": 9, "last": 8}])
+@pytest.mark.parametrize(
+    "words", [{"drawn": 0}, {"drawn": -1}, {"drawn": 2_000_000, "last": 10**8}, {"drawn": 5, "first": 9, "last": 8}]
+)
 def test_drawn_values_that_are_refused(words):
     with pytest.raises(BadInput, match="here: latency has "):
         drawn(**words)

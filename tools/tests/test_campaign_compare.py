@@ -87,7 +87,11 @@ class InACampaign(unittest.TestCase):
                 (30, "head N and then resume differs in row 4:", "- 600000 0 end 9 running"),
                 (40, "save N: status 8: avrora: scenario.toml: state refused: PastEnd, line 1", None),
                 (50, "run --plain: status 7: ", None),
-                (60, "links: 81 node 1 heard 1 AB 1: on the air is AA of node 0 sent at 5, so 1 AA 1 should be heard", None),
+                (
+                    60,
+                    "links: 81 node 1 heard 1 AB 1: on the air is AA of node 0 sent at 5, so 1 AA 1 should be heard",
+                    None,
+                ),
             ):
                 lines = found[latency]["message"].splitlines()
                 # which of two epochs goes by the scenario's text

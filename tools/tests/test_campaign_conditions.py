@@ -1,5 +1,5 @@
-"""campaign: cases that state conditions on variables, judged by workers. firmware/watched.c says what is written; when says
-`changes`."""
+"""campaign: cases that state conditions on variables, judged by workers. firmware/watched.c says what is written; when
+says `changes`."""
 import os
 import re
 import stat
@@ -69,7 +69,9 @@ def test_a_failure_names_no_file_that_is_gone(folder):
     status, out, err = campaign(folder, "always 1 ticks <= 2\n1..2000 1 serial *\n")
     assert status == 1, err
     assert "w.expect, line 3: " in out and "w.expect, line 4: " in out
-    kept = out + "".join(path.read_text(errors="replace") for path in folder.rglob("*") if "results" in str(path) and path.is_file())
+    kept = out + "".join(
+        path.read_text(errors="replace") for path in folder.rglob("*") if "results" in str(path) and path.is_file()
+    )
     assert "debug:" not in kept and "tmp/" not in kept, kept
 
 
@@ -78,7 +80,10 @@ def test_expect_says_how_a_case_names_a_program(folder):
     _, out, _ = run_tool("expect", str(folder / "w.expect"))
     assert "line 2: `ticks` is not a register, and no program is known: `elf FILE` names its ELF file" in out
     text = run_tool("expect", "--help")[1]
-    for said in ("  elf FILE", "  always NODE CONDITION", "  never NODE CONDITION", "  reaches NODE CONDITION", "  before 9000: always"):
+    for said in (
+        "  elf FILE", "  always NODE CONDITION", "  never NODE CONDITION", "  reaches NODE CONDITION",
+        "  before 9000: always",
+    ):
         assert said in text, text
 
 
@@ -91,7 +96,9 @@ def test_a_failure_before_main_says_what_may_be_meant(folder):
     (folder / "w.expect").write_text(case + "always 1 level == 7\n")
     status, out, _ = run_tool("expect", str(folder / "w.expect"))
     assert status == 1 and "`level == 7` does not hold at node 1 in cycle 0: level is 0\n" in out
-    meant = re.search("initial values come some hundred cycles after reset; `(within 1_000..: always 1 level == 7)` looks", out)
+    meant = re.search(
+        "initial values come some hundred cycles after reset; `(within 1_000..: always 1 level == 7)` looks", out
+    )
     (folder / "w.expect").write_text(f"{case}{meant[1]}\n")
     assert run_tool("expect", str(folder / "w.expect"))[0] == 0
     (folder / "w.expect").write_text(f"{case}within 1_000..: always 1 level == 8\n")
@@ -177,6 +184,8 @@ def test_conditions_that_are_not_judged_in_time(folder):
 def test_a_simulator_that_fails_is_asked_again(folder):
     log = folder / "log"
     what = f"open({str(log)!r}, 'a').write('x') > 0 and len(open({str(log)!r}).read()) < 2 and sys.exit(6)"
-    status, out, err = campaign(folder, "always 0 ticks < 9\n", text="attempts = 3\n" + CAMPAIGN, **simulator(folder, what))
+    status, out, err = campaign(
+        folder, "always 0 ticks < 9\n", text="attempts = 3\n" + CAMPAIGN, **simulator(folder, what)
+    )
     assert status == 0 and "1 passed" in out, err + out
     assert len(log.read_text()) == 2

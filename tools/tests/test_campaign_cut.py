@@ -199,7 +199,10 @@ class Kept(unittest.TestCase):
             one, other = (campaigns.Digests(campaign, "simulator", checker) for checker in ("one", "other"))
             self.assertNotEqual(one.of(campaign.run(0)), other.of(campaign.run(0)))
         sources = checkers.sources()
-        self.assertLessEqual({"avrora_tools.benches", "avrora_tools.runs", "avrora_tools.expectations", "avrora_tools.traces"}, set(sources))
+        self.assertLessEqual(
+            {"avrora_tools.benches", "avrora_tools.runs", "avrora_tools.expectations", "avrora_tools.traces"},
+            set(sources),
+        )
         self.assertNotIn("avrora_tools.commands.campaign", sources)
         self.assertNotIn("avrora_tools.campaigns", sources)
 

@@ -95,7 +95,9 @@ def test_the_number_of_a_row():
             assert store.database.execute("PRAGMA integrity_check").fetchone() == ("ok",)
             store.close()
         found, _ = rows_of(f"{path}/r/{results.FILE}")
-        assert {number: row["hash"] for number, row in found.items()} == {number: row["hash"] for number, row in written.items()}
+        assert {number: row["hash"] for number, row in found.items()} == {
+            number: row["hash"] for number, row in written.items()
+        }
 
 
 @pytest.mark.parametrize("name", ["a\\u001b[31mred\\u0007", "a\\u202Eb"])
@@ -122,6 +124,8 @@ def test_results_that_are_not_to_be_written():
         os.chmod(path, 0o755)
         shutil.copytree(f"{path}/c.results", f"{path}/other")
         env = {"AVRORA_PROGRAM": f"{path}/avrora", "CAMPAIGN_LOG": f"{path}/log"}
-        status, _, errors = run_tool("campaign", f"{path}/c.toml", "--results", f"{path}/other", env=env, by_nobody=True)
+        status, _, errors = run_tool(
+            "campaign", f"{path}/c.toml", "--results", f"{path}/other", env=env, by_nobody=True
+        )
         assert status == 3, errors
         assert f"{path}/other/" in errors and "Permission denied" in errors and "readonly database" not in errors

@@ -76,7 +76,9 @@ def driven(pool, count, arbiter=None, sample=None):
 
 
 def wrong(found):
-    return [number for number, (outcome, hashed, *_) in found.items() if (outcome, int(hashed, 16)) != (runs.PASSED, number)]
+    return [
+        number for number, (outcome, hashed, *_) in found.items() if (outcome, int(hashed, 16)) != (runs.PASSED, number)
+    ]
 
 
 @pytest.mark.parametrize("outcome", [runs.PASSED, runs.FAILED])
@@ -92,7 +94,10 @@ def test_one_of_four_lies_from_the_middle_on(outcome):
 def test_no_failure_is_told_of_one_worker_alone():
     """Each run that is not passed was made by two, and none of two hundred is from the one that says so of what is
     well."""
-    found, _ = driven(Answering("ab", {"b": 0}, runs.FAILED), 200, arbiter=lambda job: Answering("x").answer(pools.Worker("x"), int(job[0])))
+    found, _ = driven(
+        Answering("ab", {"b": 0}, runs.FAILED), 200,
+        arbiter=lambda job: Answering("x").answer(pools.Worker("x"), int(job[0])),
+    )
     assert not wrong(found)
 
 
@@ -177,9 +182,12 @@ def test_one_in_a_hundred_is_made_again():
 
 
 def test_a_second_opinion_that_does_not_come():
-    """A run that passed, and that nobody else comes to an answer of in time, is passed as those that one alone made are."""
+    """A run that passed, and that nobody else comes to an answer of in time, is passed as those that one alone made
+    are."""
     busy = runs.answer(runs.BROKEN, "took more than 10 s")
-    driver = driving.Driver(Answering("a"), 3, watching.Progress(1), lambda *words: saved.append(words), arbiter=lambda job: busy)
+    driver = driving.Driver(
+        Answering("a"), 3, watching.Progress(1), lambda *words: saved.append(words), arbiter=lambda job: busy
+    )
     saved = []
     for outcome, comes_to in ((runs.PASSED, runs.PASSED), (runs.FAILED, runs.BROKEN)):
         attempt = attempts.Attempt(Run(7), "")
@@ -209,4 +217,7 @@ def test_a_lie_in_step_with_second_opinions():
 
 def test_all_lie():
     with pytest.raises(CannotWork, match="all workers are set aside"):
-        driven(Answering("a", {"a": 0}, runs.FAILED), 100, arbiter=lambda job: Answering("x").answer(pools.Worker("x"), int(job[0])))
+        driven(
+            Answering("a", {"a": 0}, runs.FAILED), 100,
+            arbiter=lambda job: Answering("x").answer(pools.Worker("x"), int(job[0])),
+        )

@@ -63,7 +63,9 @@ def both_ways(text):
 def write_short(path):
     """The network of packet.toml for 300,000 cycles."""
     shutil.copy(f"{TOP}/examples/packet.hex", path)
-    with open(f"{TOP}/examples/packet.toml", encoding="utf-8") as packet, open(f"{path}/short.toml", "w", encoding="utf-8") as file:
+    with open(
+        f"{TOP}/examples/packet.toml", encoding="utf-8"
+    ) as packet, open(f"{path}/short.toml", "w", encoding="utf-8") as file:
         file.write(packet.read().replace("cycles = 737_280", "cycles = 300_000"))
 
 

@@ -81,7 +81,9 @@ entry.main()
 """
 
 
-@pytest.mark.parametrize("name, status", [("argparse", -signal.SIGINT), ("avrora_tools.commands.campaign", 130), ("sqlite3", 130)])
+@pytest.mark.parametrize(
+    "name, status", [("argparse", -signal.SIGINT), ("avrora_tools.commands.campaign", 130), ("sqlite3", 130)]
+)
 def test_while_it_imports(name, status):
     """Before the tool can hear it the system ends it; behind that the tool does."""
     script = EARLY.format(tools=f"{TOP}/tools", name=name)

@@ -95,7 +95,9 @@ class FakePool:
                 events += [pools.Lost(worker, lost, "killed"), pools.Proved(self.workers[-1])]
             else:
                 trouble = worker.name in self.troubled
-                outcome = runs.answer(runs.BROKEN, "no space", again=True, trouble=True) if trouble else runs.answer(runs.PASSED)
+                outcome = runs.answer(
+                    runs.BROKEN, "no space", again=True, trouble=True
+                ) if trouble else runs.answer(runs.PASSED)
                 self.ran += [] if trouble else numbers
                 self.now = max(self.now, self.busy[worker.name]) + len(jobs) * self.seconds[worker.name]
                 self.busy[worker.name] = self.now

@@ -117,7 +117,9 @@ def test_no_answer_to_a_batch(workers):
     iterators = [attempts.Attempt(Run(number), "") for number in range(200)]
     drive = [iter(iterators)]
     if workers == "b":
-        with pytest.raises(driving.CannotWork, match="all workers are set aside: b: no answer to a batch of 1 runs in 39[01] s"):
+        with pytest.raises(
+            driving.CannotWork, match="all workers are set aside: b: no answer to a batch of 1 runs in 39[01] s"
+        ):
             driver.drive(lambda: drive.pop() if drive else None, lambda: None)
         return
     driver.drive(lambda: drive.pop() if drive else None, lambda: None)

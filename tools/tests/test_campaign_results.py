@@ -21,7 +21,9 @@ def answer(outcome, message="", seconds=1.0, sent=0):
 @contextlib.contextmanager
 def store_of(path, campaign=TWO):
     """A file of results of the runs 20 and 30, not run but written."""
-    with results.opened_folder(f"{path}/results", make=True) as place, contextlib.closing(results.Store(place)) as store:
+    with results.opened_folder(
+        f"{path}/results", make=True
+    ) as place, contextlib.closing(results.Store(place)) as store:
         read = campaigns.read(f"{path}/c.toml")
         about = sittings.about_of(read, campaigns.Shard())
         store.arrange(about["signature"], read.runs())
@@ -42,7 +44,9 @@ class TheRows(unittest.TestCase):
             program = subprocess.run(["sha256sum", f"{path}/avrora"], capture_output=True, check=True).stdout.split()[0]
             self.assertEqual(row["hash"], summed.decode())
             self.assertEqual(row["program"], program.decode())
-            self.assertEqual((row["name"], row["outcome"], row["sent"], row["heard"]), ("net latency=30", "passed", 1, 1))
+            self.assertEqual(
+                (row["name"], row["outcome"], row["sent"], row["heard"]), ("net latency=30", "passed", 1, 1)
+            )
             self.assertEqual((json.loads(row["parameters"]), row["attempts"]), ({"latency": 30}, 1))
             self.assertRegex(row["host"], "process 0$")
             self.assertRegex(row["digest"] + row["checker"], "^[0-9a-f]{128}$")
@@ -68,7 +72,9 @@ class TheRows(unittest.TestCase):
             self.assertFalse(os.path.exists(f"{path}/log"), "a result that is there was run again")
             _, _, errors, _ = run_campaign(path, "--drop")
             self.assertIn("1 results of runs that are no longer in the campaign are dropped", errors)
-            self.assertEqual(sorted(os.listdir(f"{path}/c.results/runs")), ["net,latency=1.toml", "net,latency=20.toml"])
+            self.assertEqual(
+                sorted(os.listdir(f"{path}/c.results/runs")), ["net,latency=1.toml", "net,latency=20.toml"]
+            )
 
     def test_a_trace_that_is_wanted_now(self):
         with folder(TWO) as path:

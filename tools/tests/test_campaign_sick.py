@@ -34,7 +34,9 @@ def test_all_write_nothing():
     for more in ("", 'compare = ["plain"]\n'):
         text = sick.campaign("empty").replace('expect = "net.expect"\n', more)
         with folder(text, CASE) as path, sick.place_of(path):
-            status, out, errors, rows = run_campaign(path, "--jobs", "2", CAMPAIGN_SICKNESS="empty", CAMPAIGN_PLACE=path)
+            status, out, errors, rows = run_campaign(
+                path, "--jobs", "2", CAMPAIGN_SICKNESS="empty", CAMPAIGN_PLACE=path
+            )
             assert status == 3, errors
             assert "passed" not in out and not rows
             assert "all workers are set aside" in errors

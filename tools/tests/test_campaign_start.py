@@ -43,7 +43,9 @@ class Refused(unittest.TestCase):
         text = '[[run]]\nscenario = "net.toml"\n[run.vary]\nbyte_time = [100]\n'
         with folder(text) as path:
             campaign = campaigns.read(f"{path}/c.toml")
-            with results.opened_folder(f"{path}/results", make=True) as place, contextlib.closing(results.Store(place)) as store:
+            with results.opened_folder(
+                f"{path}/results", make=True
+            ) as place, contextlib.closing(results.Store(place)) as store:
                 sitting = sittings.Sitting(campaign, sittings.Words(), b"simulator", store)
                 run = campaign.run(0)
                 line = run.scenario().splitlines().index("byte_time = 100") + 1
@@ -61,7 +63,9 @@ class Refused(unittest.TestCase):
         """And not by that of its content."""
         with folder('[[run]]\nscenario = "net.toml"\n') as path:
             campaign = campaigns.read(f"{path}/c.toml")
-            with results.opened_folder(f"{path}/results", make=True) as place, contextlib.closing(results.Store(place)) as store:
+            with results.opened_folder(
+                f"{path}/results", make=True
+            ) as place, contextlib.closing(results.Store(place)) as store:
                 sitting = sittings.Sitting(campaign, sittings.Words(), b"simulator", store)
                 (shipped,) = campaign.files
                 refusal = runs.answer(runs.REFUSED, f"avrora: {shipped}: image refused: NoEnd")

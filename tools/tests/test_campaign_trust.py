@@ -85,7 +85,9 @@ def test_a_journal_that_names_another_one(ran):
     assert os.path.exists(victim)
 
 
-@pytest.mark.parametrize("name", ["results.sqlite", "results.sqlite-wal", "runs", ".lock", "campaign.log", "summary.txt"])
+@pytest.mark.parametrize(
+    "name", ["results.sqlite", "results.sqlite-wal", "runs", ".lock", "campaign.log", "summary.txt"]
+)
 def test_a_link_in_the_results(ran, name):
     with open(f"{ran}/victim", "w", encoding="utf-8") as file:
         file.write("mine")

@@ -1,5 +1,5 @@
-"""campaign: what an operator of many machines has: --stop-after, --order drawn, --dry-run, --counts, --merge, the log, and
-when it ends."""
+"""campaign: what an operator of many machines has: --stop-after, --order drawn, --dry-run, --counts, --merge, the log,
+and when it ends."""
 import os
 import re
 import socket
@@ -88,7 +88,9 @@ def series(text):
     """The values of a file in Prometheus' text format by their names with labels; each name is told of once."""
     lines = text.splitlines()
     kinds = [line.split()[2] for line in lines if line.startswith("# TYPE")]
-    assert len(set(kinds)) == len(kinds) and all(line.startswith("# HELP") or line[0] != "#" or "TYPE" in line for line in lines)
+    assert len(set(kinds)) == len(kinds) and all(
+        line.startswith("# HELP") or line[0] != "#" or "TYPE" in line for line in lines
+    )
     found = [line.rsplit(" ", 1) for line in lines if not line.startswith("#")]
     assert {name.partition("{")[0] for name, _ in found} == set(kinds)
     assert len(dict(found)) == len(found)
@@ -100,7 +102,9 @@ def test_counts():
     with folder(campaign("[20, 30, 31, 4]")) as path:
         status, _, errors, _ = run_campaign(path, "--jobs", "2", "--counts", f"{path}/mine.prom")
         assert status == 1, errors
-        with open(f"{path}/mine.prom", encoding="utf-8") as mine, open(f"{path}/c.results/campaign.prom", encoding="utf-8") as own:
+        with open(f"{path}/mine.prom", encoding="utf-8") as mine, open(
+            f"{path}/c.results/campaign.prom", encoding="utf-8"
+        ) as own:
             text = mine.read()
             assert text == own.read()
         assert os.stat(f"{path}/mine.prom").st_mode & 0o444 == 0o444 & ~os.umask(os.umask(0o022))
@@ -109,7 +113,9 @@ def test_counts():
         assert found['avrora_campaign_wanted{campaign="c"}'] == 4
         outcomes = {outcome: found[f'avrora_campaign_results{{campaign="c",outcome="{outcome}"}}'] for outcome in ("passed", "failed")}
         assert outcomes == {"passed": 2, "failed": 1}
-        assert sum(value for name, value in found.items() if name.startswith("avrora_campaign_worker_runs_total")) == len(starts(path))
+        assert sum(
+            value for name, value in found.items() if name.startswith("avrora_campaign_worker_runs_total")
+        ) == len(starts(path))
 
 
 def test_counts_of_a_strange_name():
@@ -146,7 +152,9 @@ def test_the_log():
         with open(f"{path}/c.results/campaign.log", encoding="utf-8") as file:
             lines = file.read().splitlines()
     times, texts = zip(*(line.split(" ", 1) for line in lines))
-    assert all(re.fullmatch(r"20\d\d-\d\d-\d\dT\d\d:\d\d:\d\dZ", time) for time in times) and list(times) == sorted(times)
+    assert all(
+        re.fullmatch(r"20\d\d-\d\d-\d\dT\d\d:\d\d:\d\dZ", time) for time in times
+    ) and list(times) == sorted(times)
     worker = f"{re.escape(socket.gethostname())} process [01]"
     for expected in (
         f"the worker {worker} proved itself",

@@ -12,7 +12,9 @@ from campaign_runs import SIMULATOR
 
 pytest.importorskip("distributed", reason="needs dask.distributed (Debian's python3-distributed)")
 
-JOB = runs.Job('version = 3\ncycles = 5_000\nlatency = 20\n[[node]]\nimage = "a.hex"\n[[node]]\nimage = "a.hex"\n', 0, {}, None)
+JOB = runs.Job(
+    'version = 3\ncycles = 5_000\nlatency = 20\n[[node]]\nimage = "a.hex"\n[[node]]\nimage = "a.hex"\n', 0, {}, None
+)
 
 
 @contextlib.contextmanager

@@ -1,5 +1,5 @@
-"""Changes of variables in runs. firmware/watched.c says what is written in which order; in which cycle says the trace, by the
-instructions that store: a second opinion, as `watch` is not asked for it."""
+"""Changes of variables in runs. firmware/watched.c says what is written in which order; in which cycle says the trace,
+by the instructions that store: a second opinion, as `watch` is not asked for it."""
 import re
 import subprocess
 
@@ -7,8 +7,9 @@ import pytest
 
 from avrora_tools.commands.vcd import words_of
 from avrora_tools.observing.quantities import Quantity
+from avrora_tools.states import EPOCH
 from avrora_tools.variables import UNSIGNED_CHAR, Base
-from firmware import compiled, needs_compiler, needs_program
+from firmware import PROGRAM, compiled, needs_compiler, needs_program
 from support import run_tool
 
 SCENARIO = 'version = 3\ncycles = 3_000\nwindow = [0, 3_000]\nnode = [{ image = "watched.hex" }]\n'
@@ -106,7 +107,9 @@ def test_torn_values_are_told_byte_by_byte(folder):
 def test_a_span_has_the_changes_of_the_whole_in_it(folder):
     whole = changes(folder, "-w", "*", "-w", "SREG.I")
     cut = whole[len(whole) // 2][0]
-    parts = [changes(folder, "-w", "*", "-w", "SREG.I", *words) for words in (["--until", str(cut)], ["--from", str(cut)])]
+    parts = [
+        changes(folder, "-w", "*", "-w", "SREG.I", *words) for words in (["--until", str(cut)], ["--from", str(cut)])
+    ]
     assert parts[0] + parts[1] == whole and all(parts)
 
 
@@ -252,6 +255,45 @@ def test_waves_have_the_values_of_the_source(folder):
     assert [it for it in at[codes["box.state"]] if it[0]] == told["box.state"]
     assert [it for it in at[codes["ratio"]] if it[0]] == told["ratio"]
     assert at[codes["box.level"]][-1][1] == f"{-300 & 0xFFFF:b}"
+
+
+def waves_of_ticks(place, toml, head=()):
+    """The cycles at which a dump of a head or a whole run has a new value of `ticks`, and each time that it names."""
+    folder, scenario = place, f"{place}/{toml}"
+    words = ["head", toml, "1"] if head else ["run", "--plain", toml]
+    rows = subprocess.run([PROGRAM, *words], cwd=folder, capture_output=True, check=True).stdout
+    named = ["-s", scenario, "-e", f"{folder}/watched.elf", "--watch", "ticks"]
+    status, dump, errors = run_tool("vcd", *head, *named, stdin=rows)
+    assert (status, errors) == (0, "")
+    code = re.search(r"^\$var \S+ \d+ (\S+) ticks ", dump, re.M)[1]
+    times, found = [], []
+    for line in dump[dump.index("$enddefinitions") :].splitlines():
+        if line.startswith("#"):
+            times.append(int(line[1:]))
+        elif line.startswith("b") and line.split()[1] == code:
+            found.append(times[-1])
+    return [at for at in found if at], times
+
+
+def ticks_of(place, toml, end):
+    words = ["-e", f"{place}/watched.elf", "-n", "0", "-w", "ticks", "--until", str(end), "--no-writers"]
+    told = run_tool("changes", *words, f"{place}/{toml}")[1]
+    return [int(at.replace(",", "")) + 1 for at in re.findall(r"(?m)^ *([\d,]+) +0  ticks: ", told)]
+
+
+def test_waves_behind_the_window_come_in_the_order_of_time(folder):
+    (folder / "short.toml").write_text(SCENARIO.replace("[0, 3_000]", "[0, 300]"))
+    found, times = waves_of_ticks(folder, "short.toml")
+    assert times == sorted(set(times))
+    assert found == ticks_of(folder, "short.toml", 3_000) and found[-1] > 300
+
+
+def test_waves_of_a_head_go_on_behind_its_last_row(folder):
+    text = SCENARIO.replace("[0, 3_000]", "[0, 300]").replace("cycles = 3_000", "cycles = 600_000")
+    (folder / "long.toml").write_text(text)
+    found, times = waves_of_ticks(folder, "long.toml", ("--head", "1"))
+    assert times == sorted(set(times))
+    assert found == ticks_of(folder, "long.toml", EPOCH) and found[-1] > 300
 
 
 def test_a_variable_has_a_wave_of_its_own_whatever_it_is_called():

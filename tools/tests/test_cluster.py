@@ -183,7 +183,9 @@ class SeveralClients(Cluster):
         code = """import distributed, sys
 client = distributed.Client(sys.argv[1])
 print(client.run_on_scheduler(lambda dask_scheduler: sorted(dask_scheduler.worker_plugins)))"""
-        left = subprocess.run([sys.executable, "-c", code, self.address], capture_output=True, text=True, timeout=LONG, env=self.env)
+        left = subprocess.run(
+            [sys.executable, "-c", code, self.address], capture_output=True, text=True, timeout=LONG, env=self.env
+        )
         self.assertNotIn("campaign-", left.stdout)
 
 

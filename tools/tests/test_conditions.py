@@ -255,7 +255,9 @@ def test_ranges_have_all_that_a_term_may_be():
     numbers = {"wide": [0, 1, 65535, 4096], "level": [-128, -1, 0, 127], "count": [0, 1, 255]}
     words = ["wide", "level", "count", "(wide - level)", "(wide & count)", "(wide ^ 3)", "-level", "~wide"]
     words += ["(wide % 9)", "level * count", "(wide >> 2)", "(level % 5)", "(wide | count)", "(level / 3)"]
-    words += ["(level & wide)", "(level ^ count)", "(wide / 7)", "(level >> 3)", "(wide << 5)", "(level << 2)", "(wide | 5)"]
+    words += [
+        "(level & wide)", "(level ^ count)", "(wide / 7)", "(level >> 3)", "(wide << 5)", "(level << 2)", "(wide | 5)"
+    ]
     words += ["(1 << (count % 9))", "(level | count)", "(level >> (count & 7))"]
     both = 0
     for _ in range(400):

@@ -601,7 +601,9 @@ class Command(unittest.TestCase):
                 words = ["expect", "--jobs", jobs, "--trace", f"{DATA}/relay.trace", bad, good, none]
                 status, out, err = run_tool(*words)
             self.assertEqual((status, err), (2, ""))
-            self.assertRegex(out, rf"(?m)^not ok 1 - {re.escape(bad)}\n  ---\n  message: \|\n    {re.escape(bad)}, line 1: ")
+            self.assertRegex(
+                out, rf"(?m)^not ok 1 - {re.escape(bad)}\n  ---\n  message: \|\n    {re.escape(bad)}, line 1: "
+            )
             self.assertIn(f"\nok 2 - {good} # 260 rows, 1 expectations\n", out)
             self.assertIn(f"\nnot ok 3 - {none}\n  ---\n  message: |\n    {none}: the case has no expectation\n", out)
 

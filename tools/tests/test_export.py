@@ -15,7 +15,7 @@ import sys
 import pytest
 
 from firmware import compiled, needs_compiler
-from support import DATA, TOP, data, needs_module, needs_program, run_tool, scratch
+from support import DATA, SEED, TOP, data, needs_module, needs_program, run_tool, scratch
 from avrora_tools.events import EVENTS, event_of
 from avrora_tools.exports import coverage, flames, pcapng, perfetto, tables
 from avrora_tools.exports.frames import Finder, SentByte
@@ -241,7 +241,9 @@ def test_lcov_has_what_ran():
 def test_lcov_has_a_function_in_the_file_that_declares_it(tmp_path):
     """The first code of `main` is that of an inlined function of another file."""
     (tmp_path / "radio.h").write_text("#include <avr/io.h>\nstatic inline void begin(void)\n{\n    PORTB = 1;\n}\n")
-    (tmp_path / "send.c").write_text('#include "radio.h"\n\nint main(void)\n{\n    begin();\n    for (;;)\n        PINB;\n}\n')
+    (tmp_path / "send.c").write_text(
+        '#include "radio.h"\n\nint main(void)\n{\n    begin();\n    for (;;)\n        PINB;\n}\n'
+    )
     program = Program(str(compiled(tmp_path / "send.c", tmp_path, "-Os")))
     main = next(function.first for function in program.functions if function.name == "main")
     covered = coverage.Covered()
@@ -271,7 +273,9 @@ def test_genhtml_reads_it():
 def test_what_wants_a_program_says_so():
     for form in ("callgrind", "folded", "speedscope", "lcov"):
         assert "needs the program (-e)" in exported(form, RELAY[0], RELAY[-1], status=2)
-    assert "export pcapng -s packet.toml -o packet.pcapng packet.trace" in exported("--help")  # flood.toml sends no packets
+    assert "export pcapng -s packet.toml -o packet.pcapng packet.trace" in exported(
+        "--help"
+    )  # flood.toml sends no packets
     assert "needs the scenario (-s)" in exported("pcapng", RELAY[-1], status=2)
     assert "needs the scenario (-s)" in exported("perfetto", RELAY[-1], status=2)
 
@@ -373,8 +377,8 @@ def written(rows, wants_bytes=False):
     return packets(b"".join(writer.written(events))), writer
 
 
-# Node 0 sends AA AA 7E 01 55, a byte each 1,000 cycles; node 2 hears all of it, except that the fourth byte clashes with
-# one of node 1.
+# Node 0 sends AA AA 7E 01 55, a byte each 1,000 cycles; node 2 hears all of it, except that the fourth byte clashes
+# with one of node 1.
 SENDS = [(1_000 * (at + 1), 0, f"sent {byte}") for at, byte in enumerate("AA AA 7E 01 55".split())]
 SAMPLES = [
     (1_500, 2, "heard 1 AA 25"),
@@ -425,6 +429,58 @@ def test_what_is_held_does_not_grow():
         _, writer = written(rows, wants_bytes)
         assert len(writer.wanted) <= 40 and len(writer.ears[2].alone) <= 40
         assert not writer.waiting and not writer.whole
+
+
+def sends(node, first, content):
+    """Rows of a node that sends bytes, one each 1,000 cycles."""
+    return [(first + 1_000 * at, node, f"sent {byte}") for at, byte in enumerate(content.split())]
+
+
+def test_a_frame_in_the_bytes_of_one_that_never_ends_comes_in_its_time():
+    unended = sends(0, 1_000, "AA AA 7E 20 AA AA 7E 01 55")
+    later = sends(1, 20_000, "AA AA 7E 01 66") + sends(1, 40_000, "AA AA 7E 01 77")
+    found, _ = written(sorted(unended + later))
+    assert [(node, at, what) for node, at, what, _, _ in found] == [
+        (0, 9_000, "aaaa7e0155"),
+        (1, 24_000, "aaaa7e0166"),
+        (1, 44_000, "aaaa7e0177"),
+    ]
+
+
+def test_a_frame_whose_last_bytes_are_lost_comes_in_the_order_of_time():
+    long = sends(0, 1_000, "AA AA 7E 06 01 02 03 04 05 06")
+    found, _ = written(sorted([*long, (1_500, 2, "heard 1 AA 25"), *sends(1, 2_000, "AA AA 7E 01 66")]))
+    assert [(node, at, what) for node, at, what, _, _ in found] == [
+        (1, 6_000, "aaaa7e0166"),
+        (0, 10_000, "aaaa7e06010203040506"),
+        (2, 10_000, "aa"),
+    ]
+
+
+def test_packets_of_drawn_sends_come_in_the_order_of_time():
+    draw = random.Random(SEED)
+    for _ in range(60):
+        rows, wanted = [], []
+        for node in (0, 1):
+            cycle = draw.randrange(1_000, 30_000)
+            content = [draw.choice([0xAA, 0xAA, 0x7E, 0x01, 0x02, 0x09]) for _ in range(draw.randrange(60))]
+            rows += sends(node, cycle, " ".join(f"{byte:02X}" for byte in content))
+            frames = naive_frames(content)
+            wanted += [(cycle + 1_000 * (at + len(what) - 1), node, bytes(what).hex()) for at, what in frames]
+        rows += [(draw.randrange(1_100, 90_000), 2, "heard 1 AA 0") for _ in range(40)]
+        found, _ = written(sorted(rows))
+        times = [at for _, at, _, _, _ in found]
+        assert times == sorted(times), SEED
+        assert sorted((at, node, what) for node, at, what, _, was_sent in found if was_sent) == sorted(wanted), SEED
+
+
+def test_a_time_of_a_slow_clock_is_exact():
+    with scratch("net.toml", NETWORK) as path:
+        writer = pcapng.Packets(Scenario.load(path), 1_000, wants_bytes=True)
+    last = (1 << 40) - 1
+    assert [
+        at for _, at, _, _, _ in packets(b"".join(writer.written([(last, 0, event_of("sent AA"))])))
+    ] == [last * 10**6]
 
 
 @needs_program("capinfos", "tshark")
@@ -588,7 +644,9 @@ def test_parquet_is_given_each_row_in_groups(tmp_path, monkeypatch):
     text = exported("csv", f"{DATA}/relay.trace")
     for row, cells in zip(rows, csv.DictReader(io.StringIO(text)), strict=True):
         assert {name: "" if value is None else str(value) for name, value in row.items()} == cells
-        assert all(value is None or isinstance(value, int if kinds[name] == "int64" else str) for name, value in row.items())
+        assert all(
+            value is None or isinstance(value, int if kinds[name] == "int64" else str) for name, value in row.items()
+        )
 
 
 def test_parquet_without_its_library_is_refused_by_name(monkeypatch):

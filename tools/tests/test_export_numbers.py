@@ -1,6 +1,7 @@
-"""Each format of `export` on a network of 64 nodes with eleven compiled programs, read back by a program that it is for, or
-by a reader that is written here from the format's own description, and compared to the cycle with what `profile`, `links`
-and `energy` tell, and with the rows themselves.
+"""Each format of `export` on a network of 64 nodes with eleven compiled programs, read back by a program that it is
+for, or
+by a reader that is written here from the format's own description, and compared to the cycle with what `profile`,
+`links` and `energy` tell, and with the rows themselves.
 
 AVRORA_EXPORT_WINDOW names more cycles of instructions than the tests take (at most 20,000)."""
 import collections
@@ -79,7 +80,9 @@ class Network:
 def build(source, target):
     words = ["avr-gcc", "-mmcu=atmega128", "-Os", "-gdwarf-2", "-o", f"{target}.elf", source]
     subprocess.run(words, check=True, capture_output=True)
-    subprocess.run(["avr-objcopy", "-j", ".text", "-j", ".data", "-O", "ihex", f"{target}.elf", f"{target}.hex"], check=True)
+    subprocess.run(
+        ["avr-objcopy", "-j", ".text", "-j", ".data", "-O", "ihex", f"{target}.elf", f"{target}.hex"], check=True
+    )
 
 
 def told(*words):
@@ -179,7 +182,9 @@ SPEEDSCOPE = {  # by the format's own description, in TypeScript, as far as samp
                     "unit": {"enum": ["bytes", "microseconds", "milliseconds", "nanoseconds", "none", "seconds"]},
                     "startValue": {"type": "number"},
                     "endValue": {"type": "number"},
-                    "samples": {"type": "array", "items": {"type": "array", "items": {"type": "integer", "minimum": 0}}},
+                    "samples": {
+                        "type": "array", "items": {"type": "array", "items": {"type": "integer", "minimum": 0}}
+                    },
                     "weights": {"type": "array", "items": {"type": "number", "minimum": 0}},
                 },
             },
@@ -235,10 +240,15 @@ def text(values=None):
 
 # The JSON object format of trace events, by its description: the phases that are written, and what each must have.
 NUMBER, COUNT = {"type": "number", "minimum": 0}, {"type": "integer", "minimum": 0}
-EVENT = {"type": "object", "required": ["ph", "pid"], "properties": {"ph": text(list("BEXMsfi")), "pid": COUNT, "tid": COUNT, "ts": NUMBER}}
+EVENT = {
+    "type": "object", "required": ["ph", "pid"],
+    "properties": {"ph": text(list("BEXMsfi")), "pid": COUNT, "tid": COUNT, "ts": NUMBER},
+}
 NEEDED = {
     "B": ["name", "ts", "tid"], "E": ["ts", "tid"], "X": ["name", "ts", "dur", "tid"], "M": ["name", "args"],
-    "s": ["name", "cat", "id", "ts", "tid"], "f": ["name", "cat", "id", "ts", "tid", "bp"], "i": ["name", "s", "ts", "tid"],
+    "s": ["name", "cat", "id", "ts", "tid"], "f": [
+        "name", "cat", "id", "ts", "tid", "bp"
+    ], "i": ["name", "s", "ts", "tid"],
 }  # fmt: skip
 PHASES = [
     {"if": {"properties": {"ph": {"const": phase}}}, "then": {"required": needed}} for phase, needed in NEEDED.items()
@@ -310,10 +320,14 @@ def test_lcov_counts_what_the_rows_say(network):
         source = Path(record.splitlines()[0]).name
         for count, name in re.findall(r"(?m)^FNDA:(\d+),(.+)$", record):
             told_[source, name] += int(count)
-    ran = collections.Counter((network.programs[int(row[1])], int(row[3].split()[0], 16)) for row in network.of_kind("instr"))
+    ran = collections.Counter(
+        (network.programs[int(row[1])], int(row[3].split()[0], 16)) for row in network.of_kind("instr")
+    )
     compared = 0
     for program in NODES:
-        symbols = subprocess.run(["avr-nm", f"{network.folder}/{program}.elf"], capture_output=True, text=True, check=True)
+        symbols = subprocess.run(
+            ["avr-nm", f"{network.folder}/{program}.elf"], capture_output=True, text=True, check=True
+        )
         for address, name in re.findall(r"(?m)^([0-9a-f]{8}) [Tt] (\w+)$", symbols.stdout):
             key = f"{program}.c", name
             if key in told_:
@@ -327,7 +341,9 @@ def test_lcov_counts_what_the_rows_say(network):
 
 def links_of(network):
     """By link how many sends came clean, and how many clashed, as `links` tells them."""
-    rows = re.findall(r"(?m)^ *(\d+) to +(\d+) +(\d+) +\d+ +(\d+) +(\d+) ", told("links", network.scenario, network.trace))
+    rows = re.findall(
+        r"(?m)^ *(\d+) to +(\d+) +(\d+) +\d+ +(\d+) +(\d+) ", told("links", network.scenario, network.trace)
+    )
     assert len(rows) > 50  # nodes that never send are left out
     return {(int(row[0]), int(row[1])): (int(row[3]), int(row[4])) for row in rows}
 
@@ -371,7 +387,9 @@ def test_tshark_reads_the_frames_that_the_rows_have(network):
     words = ["tshark", "-r", path, "-T", "fields", "-e", "frame.interface_name", "-e", "frame.packet_flags_direction"]
     env = {**os.environ, "HOME": str(network.folder), "XDG_RUNTIME_DIR": str(network.folder)}
     lines = subprocess.run(words, capture_output=True, text=True, check=True, env=env).stdout.splitlines()
-    found = collections.Counter(name for name, direction in (line.split("\t") for line in lines) if int(direction, 16) == 2)
+    found = collections.Counter(
+        name for name, direction in (line.split("\t") for line in lines) if int(direction, 16) == 2
+    )
     by_node = collections.defaultdict(bytearray)
     for row in network.of_kind("sent"):
         by_node[f"node {row[1]}"].append(int(row[3], 16))

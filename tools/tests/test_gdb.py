@@ -1,5 +1,5 @@
-"""Debugging by avr-gdb. The addresses and variables are those of examples/packet.c as the test compiles it; what gdb shows
-is compared with rows of the trace and with states, which other tests compare with the manual."""
+"""Debugging by avr-gdb. The addresses and variables are those of examples/packet.c as the test compiles it; what gdb
+shows is compared with rows of the trace and with states, which other tests compare with the manual."""
 import contextlib
 import os
 import pathlib

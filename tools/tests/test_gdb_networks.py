@@ -203,7 +203,9 @@ def test_a_step_from_where_an_interrupt_begins_goes_over_it(two):
 
 def main_of(folder, name):
     """The byte addresses of the function main."""
-    symbols = subprocess.run(["avr-nm", "-S", f"{name}.elf"], cwd=folder, capture_output=True, text=True, check=True).stdout
+    symbols = subprocess.run(
+        ["avr-nm", "-S", f"{name}.elf"], cwd=folder, capture_output=True, text=True, check=True
+    ).stdout
     first, size = (int(text, 16) for text in re.search(r"^(\w+) (\w+) T main$", symbols, re.M).groups())
     return first, first + size
 
@@ -286,7 +288,9 @@ def test_a_node_that_stops_is_told_and_passed_back_over(tmp_path):
     nodes = '[[node]]\nimage = "breaks.hex"\n' * 2
     inputs = "".join(f'[[input]]\nnode = {node}\nat = {at}\nhex = "41"\n' for node, at in ((1, 100_000), (0, 400_000)))
     (tmp_path / "stops.toml").write_text(f"version = 3\ncycles = 900_000\n{nodes}{inputs}", encoding="utf-8")
-    rows = subprocess.run([PROGRAM, "run", "stops.toml"], cwd=tmp_path, capture_output=True, text=True, check=True).stdout
+    rows = subprocess.run(
+        [PROGRAM, "run", "stops.toml"], cwd=tmp_path, capture_output=True, text=True, check=True
+    ).stdout
     stops = [(int(it[1]), int(it[2])) for it in re.finditer(r"^(\d+) (\d+) stop ", rows, re.M)]
     assert len(stops) == 2
     with Gdb(tmp_path, "breaks.elf") as one:
@@ -340,7 +344,9 @@ def test_a_client_that_goes_away_leaves_the_tool_as_it_was(folder):
 @needs_all
 def test_garbage_on_the_socket_ends_that_one_alone(folder):
     with served(folder) as port:
-        for junk in (b"\x16\x03\x01" * 900, b"$" + b"a" * 300_000, os.urandom(5_000), b"$#", b"$qSupported#zz" * 9, b""):
+        for junk in (
+            b"\x16\x03\x01" * 900, b"$" + b"a" * 300_000, os.urandom(5_000), b"$#", b"$qSupported#zz" * 9, b""
+        ):
             with socket.create_connection((LOOPBACK, port), LONG) as client, contextlib.suppress(OSError):
                 client.sendall(junk)
                 client.shutdown(socket.SHUT_WR)

@@ -6,12 +6,15 @@ from test_gdb import folder, gdb, needs_all, past, stands, traced  # noqa: F401
 
 
 def stores_of(past, node, name, folder):
-    """The cycles in which a node stores a byte of a variable by its address, of the trace, another than it had before."""
+    """The cycles in which a node stores a byte of a variable by its address, of the trace, another than it had
+    before."""
     symbols = subprocess.run(["avr-nm", "packet.elf"], cwd=folder, capture_output=True, text=True, check=True).stdout
     address = int(re.search(rf"^00(80\w+) . {name}$", symbols, re.M)[1], 16) - 0x800000
     rows = traced(past, 0, past.limit, "instr")
     cycles = [cycle for cycle, of, _, _, text in rows if of == node and text.startswith(f"sts 0x{address:04X}, ")]
-    return [cycle for cycle in cycles if len({past.state(c).nodes[node].data[address] for c in (cycle, cycle + 1)}) == 2]
+    return [
+        cycle for cycle in cycles if len({past.state(c).nodes[node].data[address] for c in (cycle, cycle + 1)}) == 2
+    ]
 
 
 @needs_all
@@ -21,7 +24,9 @@ def test_a_watchpoint_stops_behind_each_write_and_back_before_it(folder, past):
     on = ["continue", "monitor cycle"] * 4
     back = ["reverse-continue", "monitor cycle"] * 4
     said = gdb(folder, "watch has_whole", *on, *back)
-    assert stands(said) == [(cycle + 1, 0) for cycle in stores[:4]] + [(cycle, 0) for cycle in reversed(stores[:4])], said
+    assert stands(said) == [(cycle + 1, 0) for cycle in stores[:4]] + [
+        (cycle, 0) for cycle in reversed(stores[:4])
+    ], said
     olds = re.findall(r"Old value = (\w+)\nNew value = (\w+)", said)
     turns = [("false", "true"), ("true", "false")]
     assert olds == turns * 2 + [(new, old) for old, new in reversed(turns * 2)]

@@ -52,7 +52,9 @@ def at(folder, tmp_path, monkeypatch):
 
 
 def lines_of_sink(folder, scenario):
-    trace = subprocess.run([PROGRAM, "run", "--plain", scenario], cwd=folder, capture_output=True, text=True, check=True)
+    trace = subprocess.run(
+        [PROGRAM, "run", "--plain", scenario], cwd=folder, capture_output=True, text=True, check=True
+    )
     written = re.findall(r"^\d+ 0 serial ([0-9A-F]{2})$", trace.stdout, re.M)
     return bytes.fromhex("".join(written)).decode().split("\n")[:-1]
 
@@ -71,7 +73,9 @@ def test_the_same_seed_varies_the_same_and_what_is_found_fails(at, tmp_path):
     for path in found:
         if "-right" not in path.name:
             right = path.with_name(path.name.replace(".toml", "-right.toml"))
-            assert re.search(r"^# Drawn by seed 1 of `hunt`, (starts|cuts): .+\.$", path.read_text(encoding="utf-8"), re.M)
+            assert re.search(
+                r"^# Drawn by seed 1 of `hunt`, (starts|cuts): .+\.$", path.read_text(encoding="utf-8"), re.M
+            )
             one, two = (lines_of_sink(path.parent, it.name) for it in (path, right))
             assert one != two
     shutil.rmtree(tmp_path / "corpus")
@@ -130,7 +134,10 @@ def test_bad_words_have_status_two(at, words):
 
 @needs_compiler
 def test_arrivals_are_swept_where_handler_and_main_share_something(at):
-    words = ["hunt", "alarm.toml", "-e", "alarm.elf", *at("races"), "--until", "700_000", "--rounds", "4", "--only", "arrivals"]
+    words = [
+        "hunt", "alarm.toml", "-e", "alarm.elf", *at("races"), "--until", "700_000", "--rounds", "4", "--only",
+        "arrivals",
+    ]
     status, out, err = run_tool(*words)
     assert (status, err) == (1, "")
     assert re.search(r"`enqueue` \(alarm\.c:2\d.*`queued`.* used here and in `USART0_RX_vect`", out)
@@ -143,7 +150,9 @@ def test_arrivals_are_swept_where_handler_and_main_share_something(at):
 def test_a_condition_holds_in_every_cycle_of_each_run(at, tmp_path):
     words = ["hunt", "alarm.toml", "-e", "alarm.elf", *at("races"), "--until", "700_000", "--only", "arrivals"]
     status, out, err = run_tool(*words, "--rounds", "3", "--always", "2 queued <= 1")
-    assert (status, err) == (1, "") and re.search(r"^1\. not met: node 2: `queued <= 1` does not hold: queued is 2, by enqueue", out, re.M)
+    assert (status, err) == (1, "") and re.search(
+        r"^1\. not met: node 2: `queued <= 1` does not hold: queued is 2, by enqueue", out, re.M
+    )
     command = re.search(r"^   avrora-tools (sweep alarm\.toml --input 2:1=.* --always '2 queued <= 1')$", out, re.M)
     status, swept, _ = run_tool(*shlex.split(command[1]))
     assert status == 1 and "`queued <= 1` does not hold" in swept

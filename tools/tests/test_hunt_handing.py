@@ -116,7 +116,9 @@ def test_only_what_the_right_run_does_not_do_is_told(right, failing, found):
 def test_a_simulator_that_cannot_tell(capsys):
     handing = Handing(Watched("", CannotWork("killed")), None, lambda image: SimpleNamespace())
     handing.known["a.hex"] = USES
-    assert handing.overwritten(SCENE) == () and "what handlers hand over is not known: killed" in capsys.readouterr().err
+    assert handing.overwritten(
+        SCENE
+    ) == () and "what handlers hand over is not known: killed" in capsys.readouterr().err
     assert Handing(Watched("", ""), None, lambda image: None).overwritten(SCENE) == ()
 
 
@@ -129,7 +131,9 @@ def test_the_place_of_a_relay(tmp_path, fixed, lines):
     elf = tmp_path / "gather.elf"
     flags = ["-mmcu=atmega128", "-Os", "-gdwarf-2", f"-I{examples}", f"-DFIXED={fixed}"]
     subprocess.run(["avr-gcc", *flags, "-o", elf, examples / "hunt/gather.c"], check=True)
-    subprocess.run(["avr-objcopy", "-j", ".text", "-j", ".data", "-O", "ihex", elf, tmp_path / "gather.hex"], check=True)
+    subprocess.run(
+        ["avr-objcopy", "-j", ".text", "-j", ".data", "-O", "ihex", elf, tmp_path / "gather.hex"], check=True
+    )
     document = tomllib.loads((examples / "hunt/gather.toml").read_text(encoding="utf-8"))
     inputs = {it["node"]: it for it in document["input"]}
     starts = [Input(node, at, inputs[node].get("every", 7_680), inputs[node]["hex"]) for node, at in enumerate(NEAR)]

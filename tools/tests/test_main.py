@@ -213,7 +213,9 @@ class WholeFiles(unittest.TestCase):
             link, pipe = f"{folder}/link", f"{folder}/pipe"
             os.symlink("target", link)
             status, _, err = run_tool("timeline", "-o", link, f"{DATA}/relay.trace")
-            self.assertEqual((status, err), (2, f"avrora-tools timeline: {link}: it is a link, and the tool writes through none\n"))
+            self.assertEqual(
+                (status, err), (2, f"avrora-tools timeline: {link}: it is a link, and the tool writes through none\n")
+            )
             with open(path, encoding="utf-8") as file:
                 self.assertEqual(file.read(), "before")
             os.mkfifo(pipe)

@@ -108,7 +108,9 @@ def test_grades_go_from_nothing_to_all():
     assert [grade(share) for share in shares] == "link0 link1 link1 link2 link2 link3 link3 link4 unused".split()
 
 
-@pytest.mark.parametrize("shape, count", [("grid:4", 16), ("grid:3", 8), ("torus:3", 9), ("line", 5), ("ring", 7), ("star", 6)])
+@pytest.mark.parametrize(
+    "shape, count", [("grid:4", 16), ("grid:3", 8), ("torus:3", 9), ("line", 5), ("ring", 7), ("star", 6)]
+)
 def test_a_shape_of_mknet_lies_as_it_is_called(shape, count):
     pairs = pairs_of(shape, count)
     assert placed(count, pairs) == placed(count, [pair[::-1] for pair in pairs]) == shape_places(shape, count, 0)

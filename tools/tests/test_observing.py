@@ -81,7 +81,9 @@ def test_values_of_bytes(names):
 
 def test_a_pointer_is_shown_by_what_it_points_to(names):
     target = names.quantity("box.row[1][2]").address
-    assert names.quantity("where").shown(target.to_bytes(2, "little"), names.targets) == f"0x{target:04X} &box.row[1][2]"
+    assert names.quantity("where").shown(
+        target.to_bytes(2, "little"), names.targets
+    ) == f"0x{target:04X} &box.row[1][2]"
 
 
 def test_registers_and_bits(names):
@@ -128,7 +130,9 @@ def test_patterns(names):
     with pytest.raises(BadInput, match=r"is called `zz\*`$"):
         names.matching("zz*")
     for pattern in ("box.row*", "box.row[1]*"):
-        with pytest.raises(BadInput, match="; a pattern stands for names of variables, and not of their parts: `box` has all of them"):
+        with pytest.raises(
+            BadInput, match="; a pattern stands for names of variables, and not of their parts: `box` has all of them"
+        ):
             names.matching(pattern)
 
 
@@ -140,7 +144,9 @@ def holds(names, text, **values):
 
 
 def test_conditions_of_c_and_of_python(names):
-    for text in ("box.count <= 3 && wide != 0x10", "box.count <= 3 and not wide == 16", "!(box.count > 3 || wide == 020)"):
+    for text in (
+        "box.count <= 3 && wide != 0x10", "box.count <= 3 and not wide == 16", "!(box.count > 3 || wide == 020)"
+    ):
         assert holds(names, text, box__count=3, wide=17), text
         assert not holds(names, text, box__count=4, wide=17), text
         assert not holds(names, text, box__count=3, wide=16), text
@@ -257,8 +263,8 @@ def test_values_come_in_order_of_cycle():
 
 
 def test_drawn_writes_of_whole_values_come_out_as_they_were_written():
-    """Words and bytes are stored one behind another, each byte two cycles behind the one before; a third opinion is the list of
-    what was stored."""
+    """Words and bytes are stored one behind another, each byte two cycles behind the one before; a third opinion is the
+    list of what was stored."""
     draw = random.Random(SEED)
     for _ in range(200):
         cycle, held, changes, due = 5, {0x100: 0, 0x101: 0, 0x102: 0}, [], []
@@ -287,7 +293,9 @@ def test_a_judge_tells_each_turn(names):
     one = names.quantity("box.count")
     judge = Judge([condition], {0: [one]}, {(0, 0): b"\x00"})
     settler = Settler({0: [one]}, {(0, 0): bytes(1)})
-    changes = (Change(cycle, Place(0, Kind.BYTE, one.address), byte) for cycle, byte in ((5, 2), (9, 3), (12, 4), (20, 1)))
+    changes = (
+        Change(cycle, Place(0, Kind.BYTE, one.address), byte) for cycle, byte in ((5, 2), (9, 3), (12, 4), (20, 1))
+    )
     turned = [(moment.cycle, value) for moment in settler.moments(changes) for _, value, _ in judge.take([moment])]
     assert judge.holds == [True] and turned == [(9, False), (20, True)]
 

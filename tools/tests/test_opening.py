@@ -77,7 +77,9 @@ def test_an_unmet_condition_names_it(folder):
 
 @needs_all
 def test_a_difference_and_a_stop_name_it(folder):
-    made = subprocess.run([PROGRAM, "run", "packet.toml"], cwd=folder, capture_output=True, text=True, check=True).stdout
+    made = subprocess.run(
+        [PROGRAM, "run", "packet.toml"], cwd=folder, capture_output=True, text=True, check=True
+    ).stdout
     lines = made.splitlines(keepends=True)
     number = next(number for number, line in enumerate(lines) if number > 100 and " heard 1 " in line)
     cycle, node = map(int, lines[number].split()[:2])

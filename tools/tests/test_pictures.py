@@ -99,6 +99,16 @@ class Page(unittest.TestCase):
         node, other = data_of(out)["nodes"]
         self.assertEqual((status, node["asleep"], other["stop"]), (0, [11, 19], [70, "0098 reserved opcode"]))
 
+    def test_no_row_tells_that_a_node_sleeps_from_the_window_on_to_its_stop(self):
+        """Relay's window ends in cycle 3,165. A stop within it ends a sleep, where an interrupt's entry is what
+        stops."""
+        for stop, asleep in ((50_000, [3_161, 4]), (3_163, [3_161, 2])):
+            trace = f"3160 0 instr 0010 sleep\n{stop} 0 stop 0011 reserved address\n90000 0 end 3 stopped\n"
+            trace += "".join(f"90000 {node} end 10 running\n" for node in range(1, 5))
+            status, page, err = run_tool("timeline", "-s", f"{DATA}/relay.toml", stdin=trace)
+            self.assertEqual((status, err), (0, ""))
+            self.assertEqual(data_of(page)["nodes"][0]["asleep"], asleep)
+
     def test_names_do_not_end_the_script(self):
         with scratch("net.toml", 'cycles = 9\n[[node]]\nimage = "</script>.hex"\n') as scenario:
             page = run_tool("timeline", "-s", scenario, stdin="5 0 sent 41\n9 0 end 1 running\n")[1]
@@ -198,7 +208,9 @@ document.body.innerHTML = `<pre>${[said, ways, began, ink, marks, next, document
         page = page_of("flood")
         own = pages.source_of(self.PROBE)
         probed = page.replace("script-src ", f"script-src {own} ", 1)
-        with scratch("page.html", f"{probed}<script>{self.PROBE}</script>") as path, tempfile.TemporaryDirectory() as profile:
+        with scratch(
+            "page.html", f"{probed}<script>{self.PROBE}</script>"
+        ) as path, tempfile.TemporaryDirectory() as profile:
             words = [
                 "chromium",
                 "--headless=new",
@@ -215,7 +227,9 @@ document.body.innerHTML = `<pre>${[said, ways, began, ink, marks, next, document
             said = f"ended with status {status}" if status > 0 else f"did not end in {BROWSER} s"
             self.skipTest(f"chromium {said}")
         said, ways, began, ink, marks, after, lost, _ = dump[dump.index("<pre>") + 5 :].split("|")
-        self.assertIn("node 6 flood: CLASH of node 2's 01 of 15,051, node 5's 01 of 15,046 in cycle 15,506 = 2.1031 ms", said)
+        self.assertIn(
+            "node 6 flood: CLASH of node 2's 01 of 15,051, node 5's 01 of 15,046 in cycle 15,506 = 2.1031 ms", said
+        )
         self.assertIn("avrora-tools window", said)
         self.assertEqual((ways, began, ink), ("2", "5266", "true"))
         self.assertIn("node 9 flood: CLASH of node 10's 01 of 17,099, node 13's 01 of 17,094", after)
@@ -435,6 +449,19 @@ class Waves(unittest.TestCase):
         out = run_tool("vcd", "-n", "0,1", "--hz", "1000000", stdin=self.TRACE)[1]
         self.assertIn("$timescale 1 ps $end", out)
         self.assertIn((40_000_000, "node0.sent", "1"), changes(out))
+
+    def test_picoseconds_are_exact_late_in_a_run(self):
+        """2^40 - 1 cycles of 7,372,800 Hz are 149,130,808,350,287,543.4 ps: more digits than a float has."""
+        last = (1 << 40) - 1
+        trace = f"{last} 0 serial 41\n{last + 1} 0 end 3 running\n"
+        out = run_tool("vcd", "-n", "0", "--hz", "7372800", stdin=trace)[1]
+        self.assertIn(f"#{(last * 10**12 + 3_686_400) // 7_372_800}\n", out)
+
+    def test_a_stop_wakes_a_node_that_an_interrupt_woke(self):
+        trace = "10 0 instr 0010 sleep\n30 0 stop 0011 reserved address\n90 0 end 3 stopped\n"
+        told = changes(run_tool("vcd", "-n", "0", stdin=trace)[1])
+        asleep = [(time, value) for time, name, value in told if time and name == "node0.asleep"]
+        self.assertEqual(asleep, [(10, "0"), (11, "1"), (30, "0")])
 
     def test_behind_the_window(self):
         out = run_tool("vcd", "-s", f"{DATA}/relay.toml", f"{DATA}/relay.trace")[1]

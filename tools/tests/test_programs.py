@@ -287,6 +287,15 @@ class Profile(unittest.TestCase):
             with self.subTest(first):
                 self.assertEqual(self.of_scenario(first, end, self.PART), "0 13 9 28 0 625".split())
 
+    def test_a_stop_before_the_first_instruction_of_another_window(self):
+        """What lies before that window is no part of it, also where the scenario's own begins at reset."""
+        scenario = 'cycles = 2_000\nwindow = [{}, 400]\nnode = [{{image = "a"}}, {{image = "a"}}]\n'
+        trace = "1110 0 stop 0010 adc\n1110 1 instr 0010 nop\n1160 0 end 3 stopped\n1160 1 end 9 running\n"
+        for first in (0, 100):
+            with scratch("net.toml", scenario.format(first)) as path:
+                rows = self.profile("-s", path, trace=trace)[1:3]
+            self.assertEqual(rows, ["0 0 0 50 0 0".split(), "1 50 0 0 0 400".split()])
+
     def test_no_further_than_the_trace(self):
         self.assertEqual(self.profile("--window", "1100..1200", trace=self.PART)[1], "0 13 9 28 10 625".split())
 
@@ -405,7 +414,7 @@ class Profile(unittest.TestCase):
     @pyelftools
     def test_calls(self):
         # main calls transfer (word 6A) at word F0, transfer returns; put (word 5A) is called from an interrupt's
-        # handler.
+        # handler, which comes before the second call's first instruction.
         trace = (
             "1 0 instr 00F0 call 0x006A\n5 0 instr 006A out 0x0F, r24\n6 0 instr 006E ret\n10 0 instr 00F2 nop\n"
             "11 0 instr 00F0 call 0x006A\n15 0 enter 0024 006A\n23 0 instr 0024 jmp 0x006F\n26 0 instr 006F push r1\n"
@@ -418,6 +427,6 @@ class Profile(unittest.TestCase):
             [["calls"]]
             + [
                 line.split()
-                for line in ("1 (interrupt) > USART0_RX_vect", "1 USART0_RX_vect > put", "1 main > transfer")
+                for line in ("2 main > transfer", "1 (interrupt) > USART0_RX_vect", "1 USART0_RX_vect > put")
             ],
         )

@@ -111,7 +111,9 @@ class Why(unittest.TestCase):
         good = "cycles = 9\n[[node]]\nimage = 'a'\n"
         for more in ("[[lonk]]\nfrom = 0\n[[lonk]]\n", "[lonk]\n", "[ 'lonk' ]\n"):
             with scratch("bad.toml", good + more) as path:
-                self.assertEqual(run_tool("why", path)[:2], (1, "UnknownKey, line 4, lonk: no key of a scenario\n"), more)
+                self.assertEqual(
+                    run_tool("why", path)[:2], (1, "UnknownKey, line 4, lonk: no key of a scenario\n"), more
+                )
         with scratch("bad.toml", f"lonk = [{{ a = 1 }}]\n{good}") as path:
             self.assertEqual(run_tool("why", path)[:2], (1, "UnknownKey, line 1, lonk: no key of a scenario\n"))
 

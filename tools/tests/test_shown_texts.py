@@ -81,7 +81,9 @@ def test_keys_and_values_of_a_scenario(text):
 def test_what_the_simulator_says_of_an_image(tmp_path):
     """`window` hands on what the simulator says, and in that are names of files."""
     simulator = tmp_path / "avrora"
-    simulator.write_text("#!/bin/sh\nprintf 'avrora: \\033[31m.hex: image refused: NotARecord, line 1\\n' >&2\nexit 5\n")
+    simulator.write_text(
+        "#!/bin/sh\nprintf 'avrora: \\033[31m.hex: image refused: NotARecord, line 1\\n' >&2\nexit 5\n"
+    )
     simulator.chmod(0o755)
     (tmp_path / "a.hex").write_text(":00000001FF\n")
     (tmp_path / "a.toml").write_text("cycles = 9\nnode = [{ image = 'a.hex' }]\n")

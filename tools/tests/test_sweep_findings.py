@@ -32,7 +32,9 @@ def test_what_an_arrival_meets():
 
 
 def cell(move, address, behind, **context):
-    return Cell((), ArrivalClass(range(move, move + 1), Point(move + 1, Place(address), tuple(context.items()), behind)))
+    return Cell(
+        (), ArrivalClass(range(move, move + 1), Point(move + 1, Place(address), tuple(context.items()), behind))
+    )
 
 
 def found(cells, handed_over=None):

@@ -238,8 +238,8 @@ def test_bad_words_have_status_two(races, words):
 
 
 # A race that an invariant tells, the words of a sweep without a look at any output, the condition, how many arrivals of
-# how many break it, in which moves, and the text of the line that wrote the value. The other races of the folder spoil a
-# local copy in registers or miss a clock's tick: no condition on variables tells those.
+# how many break it, in which moves, and the text of the line that wrote the value. The other races of the folder spoil
+# a local copy in registers or miss a clock's tick: no condition on variables tells those.
 INVARIANTS = [
     # While interrupts are on, the queue is empty or its last entry is written.
     (
@@ -252,7 +252,10 @@ INVARIANTS = [
         "0 !SREG.I || (head + 32 - tail - count) % 16 != 1", "271,290 to 271,292", "/* the race */",
     ),
     # No command still waits as the timer ticks. What is written then is the tick, so the line is that of its handler.
-    ("wake", ["--start", "0=514_200..514_220", "--until", "770_000"], "0 !tick || !command", "514,208 to 514,211", "tick = 1;"),
+    (
+        "wake", ["--start", "0=514_200..514_220", "--until", "770_000"], "0 !tick || !command", "514,208 to 514,211",
+        "tick = 1;",
+    ),
 ]  # fmt: skip
 
 

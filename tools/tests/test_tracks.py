@@ -1,4 +1,5 @@
-"""Variables as tracks of a timeline. firmware/watched.c says what is written; when is compared with what `changes` tells."""
+"""Variables as tracks of a timeline. firmware/watched.c says what is written; when is compared with what `changes`
+tells."""
 import json
 import os
 import random
@@ -68,7 +69,9 @@ def told_by_changes(folder, node, name):
 @needs_simulator
 @needs_compiler
 def test_tracks_have_the_values_of_the_source(folder):
-    words = [word for name in ("box.s*", "wide", "done", "ratio", "where", "PORTB", "ticks") for word in ("--watch", name)]
+    words = [
+        word for name in ("box.s*", "wide", "done", "ratio", "where", "PORTB", "ticks") for word in ("--watch", name)
+    ]
     drawn = data_of(timeline(folder, "--watch", "box.state", *words[2:]))
     for node, lane in enumerate(drawn["nodes"]):
         tracks = {track["name"]: track for track in lane["tracks"]}

@@ -53,7 +53,9 @@ def test_the_cycles_are_those_of_the_rows():
     expected = [int(cycle) for cycle in re.findall(r"^(\d+) 2 instr 0086 ", rows, re.M)]
     assert expected == [443_350]
     status, out, err = run_tool("when", scenario, "2", "0086", "--from", "443_300", "--to", "443_420")
-    assert (status, err) == (0, "") and out.splitlines() == ["node 2, 0086: once, from cycle 443,350 to 443,350", "      443350"]
+    assert (status, err) == (0, "") and out.splitlines() == [
+        "node 2, 0086: once, from cycle 443,350 to 443,350", "      443350"
+    ]
 
 
 @needs_program
@@ -73,7 +75,9 @@ def test_windows_and_monitor_agree_over_a_whole_run(tmp_path):
 
 @needs_program
 @pytest.mark.parametrize(
-    "words, status", [(["9", "0086"], 2), (["2", "main"], 2), (["2", "0086", "--from", "9", "--to", "9"], 2), (["2", "7000"], 1)]
+    "words, status", [
+        (["9", "0086"], 2), (["2", "main"], 2), (["2", "0086", "--from", "9", "--to", "9"], 2), (["2", "7000"], 1)
+    ]
 )
 def test_ends(words, status):
     assert run_tool("when", str(RACES / "alarm.toml"), *words)[0] == status

@@ -306,7 +306,9 @@ def configure(parser: argparse.ArgumentParser) -> None:
     parser.add_argument(
         "--report", action="store_true", help="tell the results so far, also while the campaign is at work, and run none"
     )
-    parser.add_argument("--by", metavar="COLUMN", help="with --report: sort by a column or parameter, the highest first")
+    parser.add_argument(
+        "--by", metavar="COLUMN", help="with --report: sort by a column or parameter, the highest first"
+    )
     parser.add_argument("--reverse", action="store_true", help="with --by: the lowest first")
     parser.add_argument("--top", type=cli.positive, metavar="N", help="with --report: only the first N")
     for word, what in (("json", "lines of JSON"), ("junit", "a JUnit report"), ("parquet", "a table by pyarrow")):

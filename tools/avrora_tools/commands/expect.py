@@ -84,8 +84,8 @@ class Read(NamedTuple):
 
 
 def read(path: str, is_alone: bool) -> Read:
-    """The case in a file. Where it is none its outcome says so, and others are checked all the same; a file that is alone
-    is refused."""
+    """The case in a file. Where it is none its outcome says so, and others are checked all the same; a file that is
+    alone is refused."""
     try:
         return Read(expectations.read_case(path))
     except ToolError as fault:

@@ -227,8 +227,8 @@ def span_of(text: str) -> Span:
 
 
 def check_programs(state: State, path: str, nodes: Sequence[int], all_programs: Programs, has_scenario: bool) -> None:
-    """Raises BadInput where a node is at what is not an instruction of its program; warns where nothing else tells whose it
-    is."""
+    """Raises BadInput where a node is at what is not an instruction of its program; warns where nothing else tells
+    whose it is."""
     unsure: dict[str, None] = {}
     for k in nodes:
         program = all_programs.of(k) if k < len(state.nodes) else None
@@ -291,7 +291,9 @@ def configure(parser: argparse.ArgumentParser) -> None:
         "-g", "--globals", action="append", default=[], metavar="PATTERN", help="with -e: show the variables with such names"
     )
     parser.add_argument("--all", action="store_true", help="with two states: show all bytes that differ")
-    parser.add_argument("--at", type=cli.natural, metavar="CYCLE", help="STATE is a scenario: show its run as CYCLE begins")
+    parser.add_argument(
+        "--at", type=cli.natural, metavar="CYCLE", help="STATE is a scenario: show its run as CYCLE begins"
+    )
     cli.add_simulator(parser)
     add_programs(parser)
     parser.add_argument("state", metavar="STATE", help="a state; with --at a scenario")

@@ -74,7 +74,9 @@ def run(arguments: argparse.Namespace) -> int:
     scenario = Scenario.load(arguments.scenario)
     state = State.load(arguments.state) if arguments.state else None
     if state and len(state.nodes) != len(scenario.images):
-        raise BadInput(f"{files.shown(arguments.state)}: {len(state.nodes)} nodes, but the scenario has {len(scenario.images)}")
+        raise BadInput(
+            f"{files.shown(arguments.state)}: {len(state.nodes)} nodes, but the scenario has {len(scenario.images)}"
+        )
     form = traces.Form.ENDED if state else traces.Form.WHOLE
     # That a node sends too early is told here, and no reason to refuse the trace.
     lacking = None if state else Lacking(scenario.window, looks_at_samples=False)  # samples are looked at below

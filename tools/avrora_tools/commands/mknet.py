@@ -70,12 +70,18 @@ def run(arguments: argparse.Namespace) -> int:
 
 def configure(parser: argparse.ArgumentParser) -> None:
     cli.describe(parser, DESCRIPTION, "mknet --cycles 500000 --input 0=0102 grid:8 'flood.hex*64' > network.toml")
-    parser.add_argument("--cycles", type=cli.positive, default=networks.CYCLES, help="the cycles of the run (%(default)s)")
+    parser.add_argument(
+        "--cycles", type=cli.positive, default=networks.CYCLES, help="the cycles of the run (%(default)s)"
+    )
     parser.add_argument(
         "--latency", type=cli.positive, default=networks.LATENCY, help="the latency of all links, in cycles (%(default)s)"
     )
-    parser.add_argument("--link-latency", type=two_numbers, metavar="A..B", help="each link's own latency, drawn by the seed")
-    parser.add_argument("--byte-time", type=cli.positive, default=networks.BYTE_TIME, help="the byte time, in cycles (%(default)s)")
+    parser.add_argument(
+        "--link-latency", type=two_numbers, metavar="A..B", help="each link's own latency, drawn by the seed"
+    )
+    parser.add_argument(
+        "--byte-time", type=cli.positive, default=networks.BYTE_TIME, help="the byte time, in cycles (%(default)s)"
+    )
     parser.add_argument(
         "--window", type=two_numbers, default=(0, 0), metavar="A..B", help="instructions are traced in these cycles"
     )

@@ -35,7 +35,9 @@ def configure(parser: argparse.ArgumentParser) -> None:
     cli.add_nodes(parser)
     cli.add_watch(parser)
     parser.add_argument("--svg", action="store_true", help="write a picture instead of a page, as --out FILE.svg does")
-    parser.add_argument("--width", type=cli.positive, default=1200, help="the width of the picture, in pixels (%(default)s)")
+    parser.add_argument(
+        "--width", type=cli.positive, default=1200, help="the width of the picture, in pixels (%(default)s)"
+    )
     parser.add_argument(
         "--quiet",
         action="store_true",

@@ -37,6 +37,8 @@ the beginning of one."""
 
 REAL = "real"
 
+PICOSECONDS_A_SECOND = 10**12
+
 Kinds = Mapping[str, int | str]
 
 # The variables of a node: their widths in bits, or the kinds that VCD knows besides.
@@ -68,7 +70,7 @@ class Writer:
         self, nodes: Sequence[int], names: Mapping[int, str], hz: int | None, waves: Mapping[int, Kinds] | None = None
     ) -> None:
         """`waves` are kinds of further variables, by node and name."""
-        self.picoseconds = 1e12 / hz if hz else None
+        self.hz = hz
         self.kinds: dict[int, Kinds] = {node: {**VARIABLES, **(waves or {}).get(node, {})} for node in nodes}
         self.codes: dict[tuple[int, str], str] = {}
         self.now = 0
@@ -78,8 +80,8 @@ class Writer:
         self.head(nodes, names)
 
     def head(self, nodes: Sequence[int], names: Mapping[int, str]) -> None:
-        unit = "1 ps" if self.picoseconds else "1 ns"
-        note = "" if self.picoseconds else "$comment one unit of time is one cycle $end\n"
+        unit = "1 ps" if self.hz else "1 ns"
+        note = "" if self.hz else "$comment one unit of time is one cycle $end\n"
         sys.stdout.write(f"{note}$timescale {unit} $end\n$scope module network $end\n")
         for node in nodes:
             sys.stdout.write(f"$scope module node{node}{showing.vcd_word(names[node]) if names[node] else ''} $end\n")
@@ -107,7 +109,7 @@ class Writer:
     def time(self, cycle: int) -> None:
         if cycle != self.now:
             self.now = cycle
-            sys.stdout.write(f"#{round(cycle * self.picoseconds) if self.picoseconds else cycle}\n")
+            sys.stdout.write(f"#{(cycle * PICOSECONDS_A_SECOND + self.hz // 2) // self.hz if self.hz else cycle}\n")
 
     def put(self, node: int, name: str, value: int | float | str | None) -> None:
         """Sets a variable now; None is an unknown value."""
@@ -165,10 +167,14 @@ class Dump:
         self.naps: set[int] = set()  # nodes whose sleep waits to begin
         self.last_heard: dict[int, Heard] = {}
 
-    def read(self, cycle: int, node: int, event: Event) -> None:
+    def advance(self, cycle: int) -> None:
+        """Goes on to a cycle, past the window's end if that comes before."""
         if self.window and cycle >= self.window[1]:
             self.leave_window(self.window[1])
         self.writer.advance(cycle)
+
+    def read(self, cycle: int, node: int, event: Event) -> None:
+        self.advance(cycle)
         if isinstance(event, Instr):
             self.read_instr(cycle, node, event)
         elif isinstance(event, Heard):
@@ -182,12 +188,15 @@ class Dump:
         elif isinstance(event, Sent):
             self.read_sent(cycle, node, event)
         elif isinstance(event, Stop):
+            if node in self.naps:  # an interrupt woke it, whose entry stopped it
+                self.wake(node)
             self.writer.put(node, "instr", f"stop {event.cause}")
             self.writer.put(node, "stopped", 1)
 
     def leave_window(self, end: int) -> None:
         """What instruction rows tell is unknown from the window's end on."""
         self.writer.advance(end)
+        self.naps.clear()
         for node in self.nodes:
             self.writer.cancel(node, "asleep")
             for name in OF_THE_WINDOW:
@@ -332,22 +341,25 @@ def run(arguments: argparse.Namespace) -> int:
     waiting = next(changes, None)
     for cycle, node, event in itertools.chain([first], rows):
         while waves and waiting and waiting[0] <= cycle:
-            put_change(writer, waves, waiting)
+            put_change(dump, waves, waiting)
             waiting = next(changes, None)
         all_programs.compare(node, event)
         if hearing:
             hearing.row(cycle, node, event)
         if node in names:
             dump.read(cycle, node, event)
+    while waves and waiting and arguments.head:  # a head has no end rows
+        put_change(dump, waves, waiting)
+        waiting = next(changes, None)
     writer.finish()
     return 0
 
 
-def put_change(writer: Writer, waves: Waves, change: tuple[int, Moment]) -> None:
+def put_change(dump: Dump, waves: Waves, change: tuple[int, Moment]) -> None:
     cycle, moment = change
-    writer.advance(cycle)
+    dump.advance(cycle)
     name = waves.words[moment.node][moment.quantity.name]
-    writer.put(moment.node, name, waves.value(moment.node, moment.quantity, moment.held))
+    dump.writer.put(moment.node, name, waves.value(moment.node, moment.quantity, moment.held))
 
 
 def nodes_of(arguments: argparse.Namespace, scenario: Scenario | None) -> list[int]:

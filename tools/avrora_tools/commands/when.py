@@ -71,7 +71,9 @@ def configure(parser: argparse.ArgumentParser) -> None:
     parser.add_argument(
         "--from", dest="first", type=cli.natural, default=0, metavar="CYCLE", help="from this cycle on (%(default)s)"
     )
-    parser.add_argument("--to", dest="end", type=cli.positive, metavar="CYCLE", help="before this cycle; else to the end")
+    parser.add_argument(
+        "--to", dest="end", type=cli.positive, metavar="CYCLE", help="before this cycle; else to the end"
+    )
     parser.add_argument("--all", action="store_true", help=f"tell all cycles, and not the first {MOST}")
     cli.add_clock(parser)
     parser.add_argument(

@@ -35,8 +35,8 @@ WINDOWS_AHEAD = 3
 # The statuses by which the simulator refuses what it reads.
 REFUSED = (2, 4, 5, 8)
 
-# The words of the vectors, at which a node begins that wakes; the instruction that sends it to sleep; from sleep it takes
-# so many cycles to the vector.
+# The words of the vectors, at which a node begins that wakes; the instruction that sends it to sleep; from sleep it
+# takes so many cycles to the vector.
 VECTORS = range(0x0002, 0x0046, 2)
 SLEEP = b"\x88\x95"
 WAKING = 8
@@ -477,8 +477,8 @@ def line_at(text: bytes, cycle: int) -> int:
 def history(
     scenario: str, simulator: str, state: str | None = None, place: str | None = None
 ) -> Iterator[History]:
-    """The run of a scenario, from a state on or from reset, with a folder of its own while it is used. Its images are in
-    the folder `place`, else beside the scenario."""
+    """The run of a scenario, from a state on or from reset, with a folder of its own while it is used. Its images are
+    in the folder `place`, else beside the scenario."""
     with tempfile.TemporaryDirectory(prefix="avrora-gdb-") as folder:
         found = History(scenario, simulator, folder, state, place)
         try:

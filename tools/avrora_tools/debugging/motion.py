@@ -83,8 +83,8 @@ class Motion:
         wants_stop: Callable[[], bool],
         tell: Callable[[str], None],
     ) -> None:
-        """`programs`: the number of each node's program. `wants_stop` says whether gdb asks to stop; `tell` shows a text
-        to its user."""
+        """`programs`: the number of each node's program. `wants_stop` says whether gdb asks to stop; `tell` shows a
+        text to its user."""
         self.history, self.programs = history, programs
         self.wants_stop, self.tell = wants_stop, tell
         self.points: dict[Point, int] = {}  # how often each is set
@@ -188,7 +188,8 @@ class Motion:
         return self.at_end()
 
     def comes_from(self, action: Action, node: int, cycle: int) -> bool:
-        """Whether the instruction that a node executed before this one, interrupts aside, lies in the range of a step."""
+        """Whether the instruction that a node executed before this one, interrupts aside, lies in the range of a
+        step."""
         row = self.executed_before(node, cycle)
         return row is not None and action.first <= 2 * row.address < action.end
 
@@ -266,7 +267,8 @@ class Motion:
         return Stop()
 
     def executed_before(self, node: int, cycle: int) -> Traced | None:
-        """What a node executed last before a cycle, interrupts aside unless they are to be shown, or have a breakpoint."""
+        """What a node executed last before a cycle, interrupts aside unless they are to be shown, or have a
+        breakpoint."""
         depth = 0
         while (row := self.history.last_row(node, cycle)) is not None:
             cycle = row.cycle
@@ -330,12 +332,14 @@ class Motion:
         return self.at_beginning()
 
     def looked_at(self, pieces: Iterator[Piece], nodes: Sequence[int]) -> Iterator[Looked]:
-        """Piece by piece what these nodes meet and what they write of what is watched. Raises Interrupted where gdb asks
-        to stop."""
+        """Piece by piece what these nodes meet and what they write of what is watched. Raises Interrupted where gdb
+        asks to stop."""
         places = [*self.point_places(nodes), *self.watches.places(nodes)]
         for piece, seen in self.history.sightings.searched(pieces, places, self.wants_stop):
             meetings = [
-                Meeting(Place(one.cycle, one.place.node), one.place.address) for one in seen if one.place.kind is Kind.AT
+                Meeting(
+                    Place(one.cycle, one.place.node), one.place.address
+                ) for one in seen if one.place.kind is Kind.AT
             ]
             if stops := self.history.stops(piece.first, piece.end):
                 meetings += [Meeting(Place(row.cycle, node), row.address, row) for node, row in stops if node in nodes]

@@ -1,5 +1,5 @@
-"""How a program leaves a range of its instructions, as those of a source line: so a step over a line that waits long looks
-where it is left, and not at each instruction."""
+"""How a program leaves a range of its instructions, as those of a source line: so a step over a line that waits long
+looks where it is left, and not at each instruction."""
 import re
 
 from avrora_tools.instructions import is_long, text_of
@@ -13,8 +13,8 @@ ANYWHERE = ("ret", "reti", "ijmp", "icall", "eijmp", "eicall")
 
 
 def ways_out(flash: bytes, first: int, end: int) -> set[int] | None:
-    """The word addresses outside of a range of byte addresses to which an instruction in it can lead; None where that is
-    not known before it is executed."""
+    """The word addresses outside of a range of byte addresses to which an instruction in it can lead; None where that
+    is not known before it is executed."""
     found: set[int] = set()
     at = first
     while at < end:

@@ -1,5 +1,5 @@
-"""A node in each cycle of a short span: its state as the span begins, and each change of a byte since. So a step needs no
-call of the simulator where one was made near it."""
+"""A node in each cycle of a short span: its state as the span begins, and each change of a byte since. So a step needs
+no call of the simulator where one was made near it."""
 import bisect
 from collections.abc import Iterable
 from dataclasses import InitVar, dataclass, field

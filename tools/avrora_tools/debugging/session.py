@@ -180,7 +180,9 @@ class Session:
             return ""
         counter = (2 * self.motion.word).to_bytes(4, "little").hex()
         data = self.history.replayed(node, self.motion.at.cycle)
-        found = "".join(f"{number:02x}:{at.hex()};" for number, at in enumerate(target.without_counter(data))) if data else ""
+        found = "".join(
+            f"{number:02x}:{at.hex()};" for number, at in enumerate(target.without_counter(data))
+        ) if data else ""
         return f"{found}{PC:02x}:{counter};"
 
     # ---- what there is
@@ -298,7 +300,9 @@ class Session:
     def set_watch(self, packet: bytes) -> bytes:
         if self.motion.watches.insert(range_of(packet), self.general):
             return b"OK"
-        return explained("only registers, SP, SREG, kept I/O bytes and the SRAM can be watched, at most 64 bytes: delete it")
+        return explained(
+            "only registers, SP, SREG, kept I/O bytes and the SRAM can be watched, at most 64 bytes: delete it"
+        )
 
     def clear_watch(self, packet: bytes) -> bytes:
         self.motion.watches.remove(range_of(packet), self.general)

@@ -1,5 +1,5 @@
-"""What is seen at places of a run, bytes that change and instructions that begin, as `avrora watch` tells it: asked for in
-pieces, some ahead of who looks at them, and kept for who looks again."""
+"""What is seen at places of a run, bytes that change and instructions that begin, as `avrora watch` tells it: asked for
+in pieces, some ahead of who looks at them, and kept for who looks again."""
 import array
 import bisect
 import collections
@@ -13,7 +13,8 @@ from avrora_tools.errors import CannotWork
 from avrora_tools.observing.places import MOST_PLACES, Change, Kind, Place
 from avrora_tools.states import EPOCH
 
-# What is kept is of spans of so many cycles; a search begins with one of them, since the next breakpoint is mostly near.
+# What is kept is of spans of so many cycles; a search begins with one of them, since the next breakpoint is mostly
+# near.
 SPAN = EPOCH // 16
 
 # What is kept at most: lists of a place and a span, and all that stands in them, eight bytes each.

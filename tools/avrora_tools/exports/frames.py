@@ -4,6 +4,7 @@ from typing import NamedTuple
 
 HEAD = b"\xaa\xaa\x7e"
 LONGEST_PAYLOAD = 32
+SHORTEST = len(HEAD) + 2  # a length and one byte of payload
 
 
 class SentByte(NamedTuple):
@@ -32,6 +33,15 @@ class Finder:
     def end(self) -> Iterator[Frame]:
         """The frames in what is left, where nothing more is sent."""
         yield from self.taken(is_over=True)
+
+    def inner_end(self) -> int | None:
+        """The cycle in which the first frame ends that comes to light if nothing more is sent: it lies in the bytes of
+        a longer one that is not whole yet. None where there is no such frame."""
+        if len(self.held) <= SHORTEST:  # a frame within must begin behind the first byte
+            return None
+        rest = Finder()
+        rest.held = self.held[1:]
+        return next((frame[-1].cycle for frame in rest.end()), None)
 
     def taken(self, is_over: bool) -> Iterator[Frame]:
         while self.held:

@@ -1,13 +1,17 @@
 """Frames, or bytes, that nodes sent and heard as packets in the format pcapng, for Wireshark.
 
 An interface is a node. A packet's time is that of its last byte: the cycle in which it was sent, or of the sample that
-heard it first; so packets come in the order of time. The link type is USER0: the bytes from the frame's first AA on.
+heard it first. Where that byte was lost, it is the cycle of its send, or of the last sample that heard one of the
+others
+first, if that is later. So packets come in the order of time. The link type is USER0: the bytes from the frame's first
+AA on.
 """
 import collections
 import heapq
 import itertools
 import struct
 from collections.abc import Iterable, Iterator, Sequence
+from fractions import Fraction
 
 from avrora_tools.events import CLASH, Heard, Sent
 from avrora_tools.exports.frames import Finder, Frame, SentByte
@@ -82,13 +86,16 @@ class Ears:
 
 
 class Packets:
-    """Turns the rows of a trace into packets, in the order of time. What it holds does not grow with the trace."""
+    """Turns the rows of a trace into packets, in the order of time. What it holds does not grow with the trace, except
+    while a node has begun a frame with another one in its bytes: that other one is a packet if the longer never
+    ends."""
 
     def __init__(self, scenario: Scenario, hz: int, wants_bytes: bool) -> None:
         self.air, self.hz, self.wants_bytes = Air(scenario), hz, wants_bytes
         # So long after a send it can still be heard.
         self.life = self.air.reach + self.air.byte_time
         self.finders = [Finder() for _ in scenario.images]
+        self.inner_ends: dict[int, int] = {}  # of nodes: the cycle of a packet that may yet come to light
         self.ears = [Ears() for _ in scenario.images]
         self.wanted: set[Send] = set()  # that are, or may become, parts of frames
         self.whole: collections.deque[
@@ -108,10 +115,11 @@ class Packets:
                 self.hear(node, cycle, self.air.heard(node, cycle), event)
         for node, finder in enumerate(self.finders):
             self.whole.extend((node, frame) for frame in finder.end())
+        self.inner_ends.clear()
         yield from self.settled(None)
 
     def put(self, node: int, cycle: int, data: bytes, direction: int, comment: str = "") -> None:
-        content = packet(node, round(cycle * 10**NANOSECONDS / self.hz), data, direction, comment)
+        content = packet(node, round(Fraction(cycle * NANOSECONDS_A_SECOND, self.hz)), data, direction, comment)
         heapq.heappush(self.waiting, (cycle, next(self.numbers), content))
 
     def send(self, node: int, one: SentByte) -> None:
@@ -124,6 +132,10 @@ class Packets:
         for passed in finder.passed:
             self.forget((node, passed.cycle))
         finder.passed.clear()
+        if (inner_end := finder.inner_end()) is None:
+            self.inner_ends.pop(node, None)
+        else:
+            self.inner_ends[node] = inner_end
 
     def forget(self, send: Send) -> None:
         self.wanted.discard(send)
@@ -158,34 +170,36 @@ class Packets:
         """The packets that none can precede any more once all rows below `cycle` are read; all where it is None."""
         while self.whole and (cycle is None or self.whole[0][1][-1].cycle + self.life <= cycle):
             self.settle(*self.whole.popleft())
-        while self.waiting and (cycle is None or self.waiting[0][0] < cycle - self.life):
+        bounds = [*self.inner_ends.values()] if cycle is None else [cycle - self.life, *self.inner_ends.values()]
+        first_open = min(bounds, default=None)
+        while self.waiting and (first_open is None or self.waiting[0][0] < first_open):
             yield heapq.heappop(self.waiting)[2]
 
     def settle(self, sender: int, frame: Frame) -> None:
         """Puts a frame of which nothing more can be heard: as it was sent, and as each of its hearers heard it."""
-        lost = []
+        lost, heard = [], []
         for link in self.air.out_of[sender]:
             due = [one for one in frame if is_open(link, one.cycle)]
-            if due and (missed := self.receive(link.hearer, sender, frame, due)):
-                lost.append(f"node {link.hearer}: {missed}")
+            if due:
+                words, parts = self.received(link.hearer, sender, frame, due)
+                lost += [f"node {link.hearer}: {words}"] * bool(words)
+                heard += [(link.hearer, words, parts)] * bool(parts)
         self.put(sender, frame[-1].cycle, bytes(one.byte for one in frame), OUTBOUND, "; ".join(lost))
+        for hearer, words, parts in heard:
+            last = max(frame[-1].cycle, *(self.ears[hearer].alone[sender, one.cycle] for one in parts))
+            comment = f"of node {sender}: {words}" if words else ""
+            self.put(hearer, last, bytes(one.byte for one in parts), INBOUND, comment)
         for one in frame:
             self.forget((sender, one.cycle))
 
-    def receive(self, hearer: int, sender: int, frame: Frame, due: Frame) -> str:
-        """Puts what a node heard of a frame; what it lost, in words, or nothing."""
+    def received(self, hearer: int, sender: int, frame: Frame, due: Frame) -> tuple[str, Frame]:
+        """What a node lost of a frame, in words or nothing, and what it heard."""
         ears = self.ears[hearer]
         heard = [one for one in frame if (sender, one.cycle) in ears.alone]
         missed = [one for one in due if (sender, one.cycle) not in ears.alone]
         clashes = sum(1 for one in missed if (sender, one.cycle) in ears.clashed)
         if not missed:
-            words = ""
-        elif not heard and not clashes:
-            words = "not heard"
-        else:
-            words = f"{len(missed)} of {len(frame)} bytes lost" + (f", {clashes} in clashes" if clashes else "")
-        if heard:
-            last = max(ears.alone[sender, one.cycle] for one in heard)
-            comment = f"of node {sender}: {words}" if words else ""
-            self.put(hearer, last, bytes(one.byte for one in heard), INBOUND, comment)
-        return words
+            return "", heard
+        if not heard and not clashes:
+            return "not heard", heard
+        return f"{len(missed)} of {len(frame)} bytes lost" + (f", {clashes} in clashes" if clashes else ""), heard

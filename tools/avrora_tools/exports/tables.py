@@ -1,4 +1,5 @@
-"""The rows of a trace as a table, for pandas, R and spreadsheets: comma-separated values (RFC 4180), or Parquet by pyarrow."""
+"""The rows of a trace as a table, for pandas, R and spreadsheets: comma-separated values (RFC 4180), or Parquet by
+pyarrow."""
 import csv
 import io
 import itertools
@@ -67,7 +68,9 @@ def parquet(rows: Iterable[TraceRow], pyarrow: Any) -> Iterator[bytes]:
     with tempfile.TemporaryFile() as file:
         with pyarrow.parquet.ParquetWriter(file, schema) as writer:
             while group := list(itertools.islice(rest, ROWS_A_GROUP)):
-                table = [{"cycle": cycle, "node": node, "kind": event.kind, **cells(event)} for cycle, node, event in group]
+                table = [
+                    {"cycle": cycle, "node": node, "kind": event.kind, **cells(event)} for cycle, node, event in group
+                ]
                 writer.write_table(pyarrow.Table.from_pylist(table, schema=schema))
         file.seek(0)
         while block := file.read(BLOCK):

@@ -93,7 +93,8 @@ class NodeCosts:
 
 class StackReader(TraceReader):
     """Adds up the rows of a trace by call stack. An interrupt begins a stack of its own; what it interrupted is not
-    charged for it. The stack in which the window begins is not known: it begins with the function that is executed then."""
+    charged for it. The stack in which the window begins is not known: it begins with the function that is executed
+    then."""
 
     def __init__(self, window: tuple[int, int] | None, scenario: Scenario | None, functions: Functions) -> None:
         super().__init__(window, scenario)

@@ -56,7 +56,8 @@ class Overwritten:
 
 @dataclass
 class Visit:
-    """A run of a handler that writes a variable: its number, when and where it does first, the bytes that it changes."""
+    """A run of a handler that writes a variable: its number, when and where it does first, the bytes that it
+    changes."""
 
     number: int
     cycle: int
@@ -125,7 +126,8 @@ class Follower:
             self.pending[name] = Visit(self.visits, cycle, address)
 
     def byte(self, address: int) -> None:
-        """A byte changes. Other bytes of the variable than those of the visit before may be another place in a queue."""
+        """A byte changes. Other bytes of the variable than those of the visit before may be another place in a
+        queue."""
         name = self.uses.owners[address]
         here, before = self.pending.get(name), self.earlier.get(name)
         if here is None or here.number != self.visits:

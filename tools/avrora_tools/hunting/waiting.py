@@ -1,5 +1,5 @@
-"""Failing trials that wait to be made small, and which of them is next: what looks alike may have several causes, so those
-are first that differ most from what was made small."""
+"""Failing trials that wait to be made small, and which of them is next: what looks alike may have several causes, so
+those are first that differ most from what was made small."""
 import re
 from collections import Counter
 from collections.abc import Iterator

@@ -3,7 +3,8 @@
 A value of several bytes is written byte by byte: between two of them it is neither the old nor the new one. So a new
 value counts from its last byte on, once no other byte of it changes for SETTLING cycles; what stands half written for
 longer than that, as where an interrupt comes between, is a value too. A byte that is written once more ends the value
-before; not so of a bit-field, whose bytes are read, changed and stored part by part. With `torn` each byte counts at once."""
+before; not so of a bit-field, whose bytes are read, changed and stored part by part. With `torn` each byte counts at
+once."""
 import bisect
 from collections.abc import Iterable, Iterator, Mapping, Sequence
 from dataclasses import dataclass, field

@@ -30,7 +30,9 @@ def add_to(drawing: Drawing, run: Run, network: Network, words: Sequence[str]) -
         )
     observed = Observed(run, selected)
     end = min(drawing.last_cycle, run.limit)
-    tracks = {node: {one.name: Track(printable(one.name), look_of(one)) for one in found} for node, found in selected.items()}
+    tracks = {
+        node: {one.name: Track(printable(one.name), look_of(one)) for one in found} for node, found in selected.items()
+    }
 
     def put(cycle: int, node: int, one: Quantity, held: bytes) -> None:
         text = printable(one.shown(held, network.names(node).targets))

@@ -30,8 +30,8 @@ def level(track: Track, place: int, span: tuple[Number, Number]) -> float:
 
 
 def shapes(track: Track, node: int, top: int, x: Place, end: int) -> Iterator[str]:
-    """The elements of a track whose row begins at the height `top`, up to the cycle `end`. The line of a number has a gap
-    where its text stands."""
+    """The elements of a track whose row begins at the height `top`, up to the cycle `end`. The line of a number has a
+    gap where its text stands."""
     known = [number for number in track.numbers if abs(number) < float("inf")]
     span = (min(known), max(known)) if known else (0, 0)
     low = top + HIGH + 2

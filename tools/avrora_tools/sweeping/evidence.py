@@ -22,7 +22,8 @@ class Parting:
     ahead: Step | None  # the next use by that code in the failing run
 
     def is_use_before_handler(self) -> bool:
-        """Whether the failing run has a use where the passing one has a handler or a clock: it stands between no uses."""
+        """Whether the failing run has a use where the passing one has a handler or a clock: it stands between no
+        uses."""
         one, two = self.failing, self.passing
         return one is not None and two is not None and isinstance(one.what, Use) and not isinstance(two.what, Use)
 

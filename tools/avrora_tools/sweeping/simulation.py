@@ -172,7 +172,8 @@ class ProcessTails:
             self.threads = None
 
     def made_here(self, place: int) -> bytes | None:
-        """Of the runs that were asked for, the rows of that of this place as this machine makes them, where others made it."""
+        """Of the runs that were asked for, the rows of that of this place as this machine makes them, where others made
+        it."""
         return None
 
     def was_wrong(self, place: int) -> None:

@@ -132,8 +132,8 @@ def write_earliest(path: str, sweep: Sweep, cell: Cell) -> list[str]:
 
 
 def debugged(words: Sequence[str], sweep: Sweep, cell: Cell, elfs: Sequence[str]) -> str | None:
-    """The command that opens gdb where the byte of a failing run is noticed, over the scenario that the simulator runs by
-    these words (`write_earliest`); None where moves say what arrives, which a debugger cannot follow."""
+    """The command that opens gdb where the byte of a failing run is noticed, over the scenario that the simulator runs
+    by these words (`write_earliest`); None where moves say what arrives, which a debugger cannot follow."""
     move, point, last = cell.move(), cell.arrivals.point, sweep.scenario.moved[-1].event
     if is_alone(last):
         return None

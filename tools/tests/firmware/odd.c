@@ -1,16 +1,20 @@
 /* Programs of forms that are rare: compile with -DNAME for one of the names behind #ifdef. */
 #include "serial.h"
 #include <alloca.h>
+#include <avr/eeprom.h>
 #include <avr/pgmspace.h>
+#include <avr/wdt.h>
 #include <setjmp.h>
 #include <stdio.h>
 #include <stdlib.h>
 #include <string.h>
 #include <util/atomic.h>
+#include <util/delay_basic.h>
 
 #define KEPT __attribute__((noinline))
 #define TICK (OCR0 = 61, TCCR0 = _BV(WGM01) | _BV(CS01), TIMSK |= _BV(OCIE0))
 #define TOCK (OCR1A = 333, TCCR1B = _BV(WGM12) | _BV(CS10), TIMSK |= _BV(OCIE1A))
+#define TACK (OCR3A = 411, TCCR3B = _BV(WGM32) | _BV(CS30), ETIMSK |= _BV(OCIE3A))
 #define RECEIVES ISR(USART0_RX_vect) { got = UDR0; }
 #define COUNTS ISR(TIMER0_COMP_vect) { count++; }
 #define ANSWERS if (got) { put(got + (k & 3)); got = 0; }
@@ -411,6 +415,108 @@ COUNTS
 ISR(USART0_RX_vect) { got = UDR0; if (k & 1) ADCSRA = _BV(ADEN); }
 #define BEGIN TICK; sei();
 #define STEP k++; if (n++ > 250) put('.');
+#endif
+
+#ifdef watchdog_off
+RECEIVES
+COUNTS
+#define BEGIN wdt_disable(); TICK; sei();
+#define STEP wdt_reset(); k++; if ((n++ & 7) == 0) wdt_disable();
+#endif
+
+#ifdef watchdog_on_arrival
+COUNTS
+ISR(USART0_RX_vect) { got = UDR0; wdt_reset(); if (k & 2) wdt_enable(WDTO_15MS); }
+#define BEGIN TICK; sei();
+#define STEP wdt_reset(); k++;
+#endif
+
+#ifdef eeprom_kept
+RECEIVES
+COUNTS
+#define BEGIN TICK; sei();
+#define STEP EEAR = k; EEDR = n; if (!(EECR & _BV(EEWE))) k++; n += EEDR ^ EEARL;
+#endif
+
+#ifdef eeprom_on_arrival
+COUNTS
+ISR(USART0_RX_vect) { got = UDR0; if (count & 1) k = eeprom_read_byte((const uint8_t *)5); }
+#define BEGIN TICK; sei();
+#define STEP k++;
+#endif
+
+#ifdef returns_by_ret
+COUNTS
+ISR(USART0_RX_vect, ISR_NAKED)
+{
+    asm volatile("push r24\n in r24,0x0c\n sts got,r24\n pop r24\n ret");
+}
+#define BEGIN TICK; sei();
+#define STEP k++; asm volatile("nop"); k ^= 3; sei();
+#endif
+
+#ifdef clears_saved_flag
+COUNTS
+/* the handler returns by RETI, and the caller's SREG that it saved gets other flags */
+ISR(USART0_RX_vect, ISR_NAKED)
+{
+    asm volatile("push r24\n in r24,0x3f\n ori r24,0x40\n push r24\n in r24,0x0c\n sts got,r24\n pop r24\n"
+                 "andi r24,0x7f\n out 0x3f,r24\n pop r24\n reti");
+}
+#define BEGIN TICK; sei();
+#define STEP k++; asm volatile("brtc 1f\n clt\n lds r18,k\n subi r18,-7\n sts k,r18\n 1: nop" ::: "r18");
+#endif
+
+#ifdef skips_return
+COUNTS
+static KEPT __attribute__((naked)) void give_up(void) { asm volatile("pop r24\n pop r24\n ret"); }
+static KEPT void tries(void) { k++; if (k & 4) give_up(); k += 3; }
+RECEIVES
+#define BEGIN TICK; sei();
+#define STEP tries(); count ^= k;
+#endif
+
+#ifdef disables_itself
+ISR(USART0_RX_vect) { UCSR0B &= ~_BV(RXCIE0); n = 1; }
+COUNTS
+#define BEGIN TICK; sei();
+#define STEP if (n) { cli(); n = 0; got = UDR0; UCSR0B |= _BV(RXCIE0); sei(); } k++;
+#endif
+
+#ifdef spi_and_timers
+RECEIVES
+ISR(SPI_STC_vect) { sei(); k += SPDR; n++; SPDR = n; }
+ISR(TIMER0_COMP_vect, ISR_NOBLOCK) { count++; frame0(); }
+ISR(TIMER1_COMPA_vect) { if (SPSR & _BV(SPIF)) n = SPDR; }
+#define BEGIN DDRB |= 7; PORTB |= 1; SPCR = _BV(SPE) | _BV(MSTR) | _BV(SPIE); TICK; TOCK; SPDR = 0; sei();
+#define STEP k ^= n;
+#endif
+
+#ifdef rx_drains
+volatile uint8_t queue[4], put_at, take_at;
+ISR(USART0_RX_vect) { do queue[put_at++ & 3] = UDR0; while (UCSR0A & _BV(RXC0)); }
+ISR(TIMER0_COMP_vect) { _delay_loop_1(30); count++; }
+#define BEGIN TICK; sei();
+#define STEP if (put_at != take_at) got = queue[take_at++ & 3]; k++;
+#endif
+
+#ifdef three_timers
+RECEIVES
+ISR(TIMER0_COMP_vect) { count++; }
+ISR(TIMER1_COMPA_vect, ISR_NOBLOCK) { k++; frame0(); }
+ISR(TIMER3_COMPA_vect) { n++; sei(); frame1(); }
+#define BEGIN TICK; TOCK; TACK; sei();
+#define STEP k ^= n; frame2();
+#endif
+
+#ifdef jumps_in_handlers
+COUNTS
+jmp_buf before;
+volatile uint8_t deep;
+ISR(TIMER1_COMPA_vect) { n++; if ((n & 7) == 0) { longjmp(before, n); } }
+RECEIVES
+#define BEGIN TICK; TOCK; if (setjmp(before)) { k++; } sei();
+#define STEP k++; frame1();
 #endif
 
 #ifndef POLLS
