@@ -90,24 +90,12 @@ module _ {B : Type 0} {Q : B → Type 0} {get : B → ℕ → Result (ℕ × B) 
   then_in P P' a (Ok value) rest c q p k = k value a.cpu a.bus p c q
   then_in P P' a (Err cause) rest c q p k = record { core = c; bus = q; answer = tt }
 
-  -- one access after another, by what the first answers
-  next_in : {R S : Type 0} (P : R → Type 0) (P' : S → Type 0) (a : Access R B) (rest : R → Cpu → B → Access S B) → Leaves Q P a → Goes Q P P' rest
+  -- one access after another
+  next_in : {R : Type 0} (P : R → Type 0) (S : Type 0) (P' : S → Type 0) (a : Access R B) (rest : R → Cpu → B → Access S B) → Leaves Q P a → Goes Q P P' rest
       → Leaves Q P' (then_do a a.result rest)
-  next_in P P' a rest h k =
+  next_in P S P' a rest h k =
       then_in P P' a a.result rest h.core h.bus h.answer
       (λ value cpu bus p c q. k value cpu.r cpu.sreg cpu.sp cpu.pc cpu.rampz bus p c.count c.bytes c.sreg c.sp c.pc q)
-
-  after_any : {S : Type 0} (P : S → Type 0) (a : Access (Unit {0}) B) (rest : Unit {0} → Cpu → B → Access S B) → Leaves Q IsAny a → Goes Q IsAny P rest
-      → Leaves Q P (then_do a a.result rest)
-  after_any P = next_in IsAny P
-
-  after_byte : {S : Type 0} (P : S → Type 0) (a : Access ℕ B) (rest : ℕ → Cpu → B → Access S B) → Leaves Q IsByte a → Goes Q IsByte P rest
-      → Leaves Q P (then_do a a.result rest)
-  after_byte P = next_in IsByte P
-
-  after_word : {S : Type 0} (P : S → Type 0) (a : Access ℕ B) (rest : ℕ → Cpu → B → Access S B) → Leaves Q IsWord a → Goes Q IsWord P rest
-      → Leaves Q P (then_do a a.result rest)
-  after_word P = next_in IsWord P
 
   -- one that ends
   ends_in : {R : Type 0} (P : R → Type 0) (r : Result R StopCause) (cpu : Cpu) (bus : B) → CoreWithin cpu → Q bus → IfOk r P
@@ -151,11 +139,11 @@ module _ {B : Type 0} {Q : B → Type 0} {get : B → ℕ → Result (ℕ × B) 
 
   pub word_pushed_in : (word : ℕ) (cpu : Cpu) (bus : B) → word ≤ 65535 → CoreWithin cpu → Q bus → Leaves Q IsAny (pushed_word put word cpu bus)
   unfolding pushed_word
-  word_pushed_in word cpu bus small c q = let high : word / 256 ≤ 255 = omega arith in search (after_any, pushed_in, low_of)
+  word_pushed_in word cpu bus small c q = let high : word / 256 ≤ 255 = omega arith in search (next_in IsAny, pushed_in, low_of)
 
   word_popped_in : (cpu : Cpu) (bus : B) → CoreWithin cpu → Q bus → Leaves Q IsWord (popped_word get cpu bus)
   unfolding popped_word
-  word_popped_in cpu bus c q = search (after_byte, popped_in, ends_in, joined)
+  word_popped_in cpu bus c q = search (next_in IsByte, popped_in, ends_in, joined)
 
   -- instructions
 
@@ -172,14 +160,14 @@ module _ {B : Type 0} {Q : B → Type 0} {get : B → ℕ → Result (ℕ × B) 
   unfolding flow_effect skips_by_io calls returns returns_enabling
   flow_in flash (op.Jmp k) cpu bus w c q = search (ends_in, parts)
   flow_in flash _ cpu bus w c q =
-      search (after_byte, after_any, after_word, loaded_in, word_pushed_in, word_popped_in, branched_in, skip_most, pair_most, flag_in, ends_in, parts) depth 10
+      search (next_in IsByte, next_in IsAny, next_in IsWord, loaded_in, word_pushed_in, word_popped_in, branched_in, skip_most, pair_most, flag_in, ends_in, parts) depth 10
 
   stores_in : (at value words cycles : ℕ) (cpu : Cpu) (bus : B) → value ≤ 255 → cycles ≤ 8 → CoreWithin cpu → Q bus → Leaves Q IsShort (stores put at value words cycles cpu bus)
   unfolding stores
-  stores_in at value words cycles cpu bus small short c q = search (after_any, stored_in, ends_in, parts)
+  stores_in at value words cycles cpu bus small short c q = search (next_in IsAny, stored_in, ends_in, parts)
 
   pub memory_in : (flash : List ℕ) (bytes : AreBytes flash) (o : Op) (cpu : Cpu) (bus : B) → CoreWithin cpu → Q bus → Leaves Q IsShort (memory_effect get put flash o cpu bus)
   unfolding memory_effect loads loads_post_increment loads_pre_decrement stores_post_increment stores_pre_decrement pushes pops sets_bit loads_program_post_increment loads_extended_post_increment
   memory_in flash bytes op.Nop cpu bus c q = search (ends_in, parts)
   memory_in flash bytes _ cpu bus c q =
-      search (after_byte, after_any, loaded_in, stored_in, stores_in, pushed_in, popped_in, stopped_in, flag_in, c.bytes, bytes, ends_in, parts) depth 10
+      search (next_in IsByte, next_in IsAny, loaded_in, stored_in, stores_in, pushed_in, popped_in, stopped_in, flag_in, c.bytes, bytes, ends_in, parts) depth 10

@@ -193,6 +193,11 @@ module _ (t : ℕ) (s : NodeState) (h : StepWithin t t s) where
 
 -- the devices' part
 
+-- by a test, with what it says
+either_way : {P : Type 0} (b : Bool) → (b ≡ true → P) → (b ≡ false → P) → P
+either_way true f g = f refl
+either_way false f g = g refl
+
 module _ (t : ℕ) (s : NodeState) (h : StepWithin t (t + 1) s) where
   -- it stopped in this cycle
   halted_in : is_some s.stop ≡ true → NodeWithin (t + 1) s
@@ -206,24 +211,15 @@ module _ (t : ℕ) (s : NodeState) (h : StepWithin t (t + 1) s) where
   moved_in e b states w =
       let space : SpaceWithin (if is_some s.stop then 0 else t + 1) b s.sram = rw e (assumption) in assumption
 
-  answer_by : (x : Heard) (b : Board) (asks : Bool) → is_some s.stop ≡ false → IsBoard b → BoardWithin (t + 1) (if asks then board_answered x b else b)
-      → NodeWithin (t + 1) (if asks then finished_in t (record s { board = b }) x else record s { board = b })
-  answer_by x b true e states w = moved_in e (board_answered x b) (device.answered_kept x b states) w
-  answer_by x b false e states w = moved_in e b states w
-
-  devices_by : (x : Heard) (stopped : Bool) → is_some s.stop ≡ stopped → t < 2 ^ 40 → HeardWithin x
-      → NodeWithin (t + 1) (if (if stopped then false else board_asks t s.board)
-      then finished_in t (if stopped then s else record s { board = board_begun t (script_byte s.script t) s.board }) x
-      else if stopped then s else record s { board = board_begun t (script_byte s.script t) s.board })
-  devices_by x true e early heard = halted_in e
-  devices_by x false e early heard =
-      let a : Option ℕ = script_byte s.script t in
-      answer_by x (board_begun t a s.board) (board_asks t s.board) e (device.begun_kept t a s.board h.space.states) (cycle_within t a x s.board early heard h.space.states h.space.board)
-
   devices_in : (x : Heard) → t < 2 ^ 40 → HeardWithin x
       → NodeWithin (t + 1) (if asks_after t s then finished_in t (devices_cycle t s) x else devices_cycle t s)
   unfolding devices_cycle asks_after
-  devices_in x early heard = devices_by x (is_some s.stop) refl early heard
+  devices_in x early heard =
+      let b : Board = board_begun t (script_byte s.script t) s.board in
+      let states = device.begun_kept t (script_byte s.script t) s.board h.space.states in
+      let w = cycle_within t (script_byte s.script t) x s.board early heard h.space.states h.space.board in
+      either_way (is_some s.stop) (λ e. rw e (halted_in e))
+      (λ e. rw e (cond_both (board_asks t s.board) _ _ (NodeWithin (t + 1)) (λ a. moved_in e (board_answered x b) (device.answered_kept x b states) (rw a at w)) (λ a. moved_in e b states (rw a at w))))
 
   send_in : t < 2 ^ 40 → ByteWithin (sends_after t s)
   unfolding sends_after
@@ -241,16 +237,10 @@ module _ (t : ℕ) (s : NodeState) (h : NodeWithin t s) where
       let space : SpaceWithin (if is_some s.stop then 0 else t + 1) s.board s.sram = rw e here in
       search arith
 
-  whole_by : (x : Heard) (stopped : Bool) → is_some s.stop ≡ stopped → t < 2 ^ 40 → HeardWithin x
-      → NodeWithin (t + 1) (if (if stopped then false else asks_after t (cpu_cycle t s))
-      then finished_in t (if stopped then s else devices_cycle t (cpu_cycle t s)) x
-      else if stopped then s else devices_cycle t (cpu_cycle t s))
-  whole_by x true e early heard = stays e
-  whole_by x false e early heard = devices_in t (cpu_cycle t s) (cpu_cycle_in t s (running e) early) x early heard
-
   pub ticked_within : (x : Heard) → t < 2 ^ 40 → HeardWithin x → NodeWithin (t + 1) (ticked node_kind t s x)
   unfolding begun_in asks_in
-  ticked_within x early heard = whole_by x (is_some s.stop) refl early heard
+  ticked_within x early heard =
+      either_way (is_some s.stop) (λ e. rw e (stays e)) (λ e. rw e (devices_in t (cpu_cycle t s) (cpu_cycle_in t s (running e) early) x early heard))
 
   pub node_sends_within : t < 2 ^ 40 → ByteWithin (sends_in t s)
   unfolding sends_in
