@@ -53,7 +53,7 @@ use Rattle.device_laws.specs.States.{IsBoard, IsUsart}
 use Rattle.device_laws.proofs.Timers.{kept_if}
 use Rattle.node_laws.specs.Within.{BoardWithin, ByteWithin, HeardWithin, RadioWithin, ReadWithin, SpiWithin, Timer16Within, Timer8Within, UsartWithin, WrittenWithin}
 use Rattle.node_laws.proofs.Timers.{cycle_16, cycle_8, get_16_within, put_16_within, put_8_within, refused}
-use Rattle.node_laws.proofs.Ports.{MovedWithin, SentWithin, arrived_within, ended_within, get_spi_within, get_usart_within, none_ended, oldest_within, put_spi_within, put_usart_within, shift_from, shift_later, transfer_within, usart_cycle_within}
+use Rattle.node_laws.proofs.Ports.{Leaves, MovedWithin, arrived_within, ended_within, get_spi_within, get_usart_within, none_ended, oldest_within, put_spi_within, put_usart_within, shift_from, shift_later, transfer_within, usart_cycle_within}
 use Rattle.device_laws.proofs.Ports.{arrived_kept, within}
 use Rattle.std.specs.Prelude.{IfOk}
 
@@ -82,14 +82,15 @@ received_within : (t : ℕ) (arrival : Option ℕ) (u : Usart) → IsUsart u →
 received_within t None u states h = (h, states.baud)
 received_within t (Some x) u states h = (arrived_within t x u h, (arrived_kept x u states).baud)
 
--- what is left of cycle t, by what the radio makes of the transfer that ends in it
-abbrev Known : ℕ → Option (TransferOutcome × Radio) → Spi → Radio → Type 0
-Known t None s r = SpiWithin (t + 1) s × RadioWithin r
-Known t (Some m) s r = MovedWithin m.0 m.1 × (s.control ≤ 255)
-
 -- all but the serial peripheral interface and the radio is within its bounds before cycle t
 abbrev RestWithin : ℕ → Board → Type 0
 RestWithin t b = (r : Radio) (s : Spi) → RadioWithin r → SpiWithin t s → BoardWithin t (record b { radio = r; spi = s })
+
+rest_within : (t : ℕ) (arrival : Option ℕ) (b : Board) → t < 2 ^ 40 → IsBoard b → BoardWithin t b → RestWithin (t + 1) (usart_cycle t arrival (timers_cycle t b))
+rest_within t arrival b early states w r s f g =
+    let u = received_within t arrival b.usart states.usart w.usart in
+    let usart = usart_cycle_within t (received arrival b.usart) early u.1 u.0 in
+    search (cycle_8, cycle_16)
 
 ended_by : (t : ℕ) (m : TransferOutcome) (r : Radio) (h : Heard) (b : Board) → HeardWithin h → MovedWithin m r → b.spi.control ≤ 255 → RestWithin t b
     → BoardWithin t (if is_asks (air_by m) then board_answered h (transfer_end m r b) else transfer_end m r b)
@@ -97,37 +98,27 @@ unfolding board_answered
 ended_by t Ask r h b heard known control rest = rest (radio_answered h r) (spi.spi_finished 0 b.spi) (assumption) (omega arith)
 ended_by t _ r h b heard known control rest = rest r _ known.1 (omega arith)
 
-moved_within : (t : ℕ) (o : Option (TransferOutcome × Radio)) (h : Heard) (b : Board) → HeardWithin h → Known t o b.spi b.radio → RestWithin (t + 1) b
-    → BoardWithin (t + 1) (if is_asks (air_of o) then board_answered h (with_moved o b) else with_moved o b)
-moved_within t None h b heard known rest = rest b.radio b.spi known.1 known.0
-moved_within t (Some m) h b heard known rest = ended_by (t + 1) m.0 m.1 h b heard known.0 known.1 rest
-
 -- what the radio makes of the byte of a transfer
-transferred : (t byte : ℕ) (b : Board) → t < 2 ^ 40 → byte ≤ 255 → IsBoard b → BoardWithin t b
-    → MovedWithin (radio_transfer t (selected b) byte b.radio).0 (radio_transfer t (selected b) byte b.radio).1 × SentWithin (radio_transfer t (selected b) byte b.radio).0
+transferred : (t byte : ℕ) (b : Board) → t < 2 ^ 40 → byte ≤ 255 → IsBoard b → BoardWithin t b → Leaves (radio_transfer t (selected b) byte b.radio)
 transferred t byte b early small states h = transfer_within t byte (selected b) b.radio early small states.radio.byte_time h.radio
 
-known_by : (t : ℕ) (o : Option ℕ) (b : Board) → ended_byte b.spi.shift_register t ≡ o → ByteWithin o → t < 2 ^ 40 → IsBoard b → BoardWithin t b → Known t (moved_by t o b) b.spi b.radio
-known_by t None b e small early states h = search (shift_later, none_ended)
-known_by t (Some byte) b e small early states h = ((transferred t byte b early small states h).0, h.spi.control)
+moved_within : (t : ℕ) (o : Option ℕ) (h : Heard) (b c : Board) → ended_byte b.spi.shift_register t ≡ o → ByteWithin o → t < 2 ^ 40 → HeardWithin h → IsBoard b → BoardWithin t b
+    → c.spi ≡ b.spi → c.radio ≡ b.radio → RestWithin (t + 1) c
+    → BoardWithin (t + 1) (if is_asks (air_of (moved_by t o b)) then board_answered h (with_moved (moved_by t o b) c) else with_moved (moved_by t o b) c)
+moved_within t None h b c e small early heard states w spi radio rest = rest c.radio c.spi (rw radio w.radio) (rw spi (search (shift_later, none_ended)))
+moved_within t (Some byte) h b c e small early heard states w spi radio rest =
+    ended_by (t + 1) _ _ h c heard (transferred t byte b early small states w).0 (rw spi w.spi.control) rest
 
 -- after the whole cycle t, where h is what a sample in it hears
 pub cycle_within : (t : ℕ) (arrival : Option ℕ) (h : Heard) (b : Board) → t < 2 ^ 40 → HeardWithin h → IsBoard b → BoardWithin t b
     → BoardWithin (t + 1) (if board_asks t b then board_answered h (board_begun t arrival b) else board_begun t arrival b)
 unfolding board_begun board_air
 cycle_within t arrival h b early heard states w =
-    let u = received_within t arrival b.usart states.usart w.usart in
-    let usart : UsartWithin (t + 1) (usart.usart_cycle t (received arrival b.usart)) = usart_cycle_within t (received arrival b.usart) early u.1 u.0 in
-    let known = known_by t (ended_byte b.spi.shift_register t) b refl (ended_within t b.spi.shift_register w.spi.shift_register) early states w in
-    moved_within t (moved t b) h (usart_cycle t arrival (timers_cycle t b)) heard known (λ r s f g. search (cycle_8, cycle_16))
-
-send_is : (m : TransferOutcome) → SentWithin m → ByteWithin (sent_by (air_by m))
-send_is (Send byte miso) h = h
-send_is _ h = tt
+    moved_within t _ h b _ refl (ended_within t b.spi.shift_register w.spi.shift_register) early heard states w refl refl (rest_within t arrival b early states w)
 
 sends_by : (t : ℕ) (o : Option ℕ) (b : Board) → t < 2 ^ 40 → IsBoard b → BoardWithin t b → ByteWithin o → ByteWithin (sent_by (air_of (moved_by t o b)))
 sends_by t None b early states h small = tt
-sends_by t (Some byte) b early states h small = send_is _ (transferred t byte b early small states h).1
+sends_by t (Some byte) b early states h small = (transferred t byte b early small states h).1
 
 -- what it sends is a byte
 pub sends_within : (t : ℕ) (b : Board) → t < 2 ^ 40 → IsBoard b → BoardWithin t b → ByteWithin (board_sends t b)

@@ -4,6 +4,7 @@ use Rattle.std.specs.Prelude.{IfOk}
 use Rattle.air_base.specs.declared.bounds.TheConstants.{LONGEST_BYTE}
 use Rattle.std.proofs.lemmas.Bool.{cond_both}
 use Rattle.std.proofs.lemmas.Bool.Decides.{nat_tests}
+use Rattle.board_io.specs.Cycle.{air_by, sent_by}
 use Rattle.device_base.specs.Bits.{any_bit}
 use Rattle.serial_ports.specs.Transmission.{ended_byte, is_end}
 use Rattle.serial_ports.specs.declared.transmission.Transmission.{Transmission}
@@ -132,14 +133,9 @@ MovedWithin (Answer miso) r = (miso ≤ 255) × RadioWithin r
 MovedWithin (Send byte miso) r = (miso ≤ 255) × RadioWithin r
 MovedWithin Ask r = r.free ≤ 2 ^ 41
 
--- the byte that it sends is the byte of the transfer
-abbrev pub SentWithin : TransferOutcome → Type 0
-SentWithin (Answer miso) = Unit {0}
-SentWithin (Send byte miso) = byte ≤ 255
-SentWithin Ask = Unit {0}
-
-abbrev Leaves : TransferOutcome × Radio → Type 0
-Leaves m = MovedWithin m.0 m.1 × SentWithin m.0
+-- and what it sends is a byte
+abbrev pub Leaves : TransferOutcome × Radio → Type 0
+Leaves m = MovedWithin m.0 m.1 × ByteWithin (sent_by (air_by m.0))
 
 selected_within : (t b : ℕ) (state : RadioState) (r : Radio) → t < 2 ^ 40 → b ≤ 255 → r.byte_time ≤ LONGEST_BYTE → r.free ≤ 2 ^ 41 → StateWithin state
     → Leaves (selected_transfer t b state r)
