@@ -156,11 +156,12 @@ module _ {B : Type 0} {Q : B → Type 0} {get : B → ℕ → Result (ℕ × B) 
   unfolding skipping
   skip_most flash on cpu = grind arith
 
+  ruleset steps = (loaded_in, stored_in, pushed_in, popped_in, stopped_in, word_pushed_in, word_popped_in, branched_in, skip_most, pair_most, flag_in, ends_in, parts)
+
   pub flow_in : (flash : List ℕ) (o : Op) (cpu : Cpu) (bus : B) → OpWithin o → CoreWithin cpu → Q bus → Leaves Q IsShort (flow_effect get put flash o cpu bus)
   unfolding flow_effect skips_by_io calls returns returns_enabling
   flow_in flash (op.Jmp k) cpu bus w c q = search (ends_in, parts)
-  flow_in flash _ cpu bus w c q =
-      search (next_in IsByte, next_in IsAny, next_in IsWord, loaded_in, word_pushed_in, word_popped_in, branched_in, skip_most, pair_most, flag_in, ends_in, parts) depth 10
+  flow_in flash _ cpu bus w c q = search (next_in IsByte, next_in IsAny, next_in IsWord, steps) depth 10
 
   stores_in : (at value words cycles : ℕ) (cpu : Cpu) (bus : B) → value ≤ 255 → cycles ≤ 8 → CoreWithin cpu → Q bus → Leaves Q IsShort (stores put at value words cycles cpu bus)
   unfolding stores
@@ -169,5 +170,4 @@ module _ {B : Type 0} {Q : B → Type 0} {get : B → ℕ → Result (ℕ × B) 
   pub memory_in : (flash : List ℕ) (bytes : AreBytes flash) (o : Op) (cpu : Cpu) (bus : B) → CoreWithin cpu → Q bus → Leaves Q IsShort (memory_effect get put flash o cpu bus)
   unfolding memory_effect loads loads_post_increment loads_pre_decrement stores_post_increment stores_pre_decrement pushes pops sets_bit loads_program_post_increment loads_extended_post_increment
   memory_in flash bytes op.Nop cpu bus c q = search (ends_in, parts)
-  memory_in flash bytes _ cpu bus c q =
-      search (next_in IsByte, next_in IsAny, loaded_in, stored_in, stores_in, pushed_in, popped_in, stopped_in, flag_in, c.bytes, bytes, ends_in, parts) depth 10
+  memory_in flash bytes _ cpu bus c q = search (next_in IsByte, next_in IsAny, stores_in, c.bytes, bytes, steps) depth 10

@@ -183,10 +183,12 @@ byte_spi t s _ h = assumption
 
 -- accesses in cycle t, by the rule of the register
 
+ruleset reads = (kept_byte, flags_byte, extended_byte, byte_8, byte_16, byte_usart, byte_spi, get_16_within, get_usart_within, get_spi_within)
+
 read_by : (t : ℕ) (r : Rule) (b : Board) (at : ℕ) → IsBoard b → BoardWithin t b → IfOk (get_by r b at) (λ got. (got.0 ≤ 255) × BoardWithin t got.1)
+read_by t rule.Reserved b at states h = tt
 read_by t rule.WatchdogControl b at states h = (omega arith, h)
-read_by t _ b at states h =
-    search (kept_byte, flags_byte, extended_byte, byte_8, byte_16, byte_usart, byte_spi, get_16_within, get_usart_within, get_spi_within)
+read_by t _ b at states h = search reads
 
 got_within : (t clock : ℕ) (r : Result (ℕ × Board) StopCause) → clock ≡ t → IfOk r (λ got. (got.0 ≤ 255) × BoardWithin t got.1) → ReadWithin t (got_in clock r)
 got_within t clock (Ok got) now h = (h.0, h.1, now)
@@ -257,7 +259,8 @@ write_by t (rule.Timer3 reg) b at x e low small early states h = in_device Timer
 write_by t (rule.Usart0 reg) b at x e low small early states h =
     in_device (UsartWithin t) (BoardWithin t) (with_usart b) _ (put_usart_within t b.usart reg x small early states.usart.baud h.usart) (λ u f. assumption) (λ _. tt)
 write_by t (rule.Spi reg) b at x e low small early states h = in_device (SpiWithin t) (BoardWithin t) (with_spi b) _ (put_spi_within t b.spi reg x small early h.spi) (λ s f. assumption) (λ _. tt)
-write_by t _ b at x e low small early states h = search refused
+write_by t rule.WatchdogControl b at x e low small early states h = search refused
+write_by t _ b at x e low small early states h = search
 
 done_within : (t clock : ℕ) (r : Result Board StopCause) → clock ≡ t → IfOk r (BoardWithin t) → WrittenWithin t (done_in clock r)
 done_within t clock (Ok b) now h = (h, now)

@@ -90,11 +90,13 @@ OpWithin (op.Jmp k) = k ≤ 65535
 OpWithin (op.Call k) = k ≤ 65535
 OpWithin _ = Unit {0}
 
+ruleset results = (core_of, set_count, set_bytes, and_in, or_in, xor_in, half_by, multiplied_word, multiplied_flags, byte_of, sign_in, carries_in, flag_in)
+
 effect_in : (o : Op) (cpu : Cpu) → CoreWithin cpu → OpWithin o → CoreWithin (effect o cpu)
 unfolding effect adds subtracts subtracts_with_carry compares compares_with_carry becomes_bits multiplies sets_flag loads_bit swaps added subtracted logical complemented incremented decremented shifted added_word subtracted_word
-effect_in (op.Ori d r) cpu h k = search (core_of, set_count, set_bytes, or_in, sign_in, h.bytes, arith)
+effect_in (op.Ori d r) cpu h k = search (results, h.bytes, arith)
 effect_in op.Nop cpu h k = h
-effect_in _ cpu h k = search (core_of, set_count, set_bytes, and_in, or_in, xor_in, half_by, multiplied_word, multiplied_flags, byte_of, sign_in, carries_in, flag_in, h.bytes, arith)
+effect_in _ cpu h k = search (results, h.bytes, arith)
 
 pub arith_in : (o : Op) (cpu : Cpu) → OpWithin o → CoreWithin cpu → CoreWithin (arith_cpu o cpu)
 arith_in o cpu k h = let left = effect_in o cpu h k in search (core_of, arith)

@@ -106,7 +106,8 @@ pub put_usart_within : (t : ℕ) (u : Usart) (reg : UsartReg) (b : ℕ) → b �
 put_usart_within t u ureg.BaudL b small early baud h = assumption
 put_usart_within t u ureg.BaudH b small early baud h = assumption
 put_usart_within t u ureg.Udr b small early baud h = search (usart_if, started_within)
-put_usart_within t u _ b small early baud h = search (refused, usart_if)
+put_usart_within t u ureg.ControlB b small early baud h = search (refused, usart_if)
+put_usart_within t u _ b small early baud h = search refused
 
 -- the serial peripheral interface
 
@@ -123,7 +124,7 @@ unfolding spi.transfer_cycles
 put_spi_within t s spireg.Spdr b small early h = search (kept_if, transfer_lasts s, arith)
 put_spi_within t s spireg.Control b small early h =
     let left = kept_if (ShiftWithin t) (any_bit b 0x40) s.shift_register None h.shift_register tt in search refused
-put_spi_within t s _ b small early h = search refused
+put_spi_within t s _ b small early h = assumption
 
 -- the radio
 

@@ -34,7 +34,7 @@ cycle_8 t tm h = omega (arith, clock_within t (timer8.counter_of tm) h.count)
 
 pub put_8_within : (tm : Timer8) (reg : Reg8) (b : ℕ) → b ≤ 255 → Timer8Within tm → IfOk (put_8 tm reg b) Timer8Within
 put_8_within tm reg8.Count b small h = omega arith
-put_8_within tm _ b small h = search (refused, arith)
+put_8_within tm _ b small h = grind arith
 
 pub cycle_16 : (t : ℕ) (tm : Timer16) → Timer16Within tm → Timer16Within (timer16.timer_cycle t tm)
 cycle_16 t tm h = omega (arith, clock_within t (timer16.counter_of tm) h.count)
@@ -46,4 +46,4 @@ get_16_within tm _ h = omega arith
 pub put_16_within : (tm : Timer16) (reg : Reg16) (b : ℕ) → b ≤ 255 → Timer16Within tm → IfOk (put_16 tm reg b) Timer16Within
 put_16_within tm (reg16.CompL chan.A) b small h = omega arith
 put_16_within tm (reg16.CompL _) b small h = omega arith
-put_16_within tm _ b small h = search (refused, kept_if, arith)
+put_16_within tm _ b small h = grind arith
