@@ -16,8 +16,9 @@ use Rattle.avr_core.specs.FlowShapes as flow
 use Rattle.avr_core.specs.FlowTable.{flow_effect}
 use Rattle.avr_core.specs.MemoryShapes.{loads, loads_extended_post_increment, loads_post_increment, loads_pre_decrement, loads_program_post_increment, pops, pushes, sets_bit, stores, stores_post_increment, stores_pre_decrement}
 use Rattle.avr_core.specs.MemoryTable.{memory_effect}
+use Rattle.ihex_loader.specs.Flash.{byte_at}
 use Rattle.node_laws.specs.Node.{AreBytes, CoreWithin}
-use Rattle.node_laws.proofs.Cores.{OpWithin, core_of, flag_in, set_bytes, set_count}
+use Rattle.node_laws.proofs.Cores.{OpWithin, core_of, flag_in, reg_most, set_bytes, set_count}
 
 -- what an access answers: a byte, a word, nothing, or the end of an instruction of at most eight cycles
 abbrev pub IsByte : ℕ → Type 0
@@ -70,6 +71,9 @@ word_of n = omega arith
 high_of : (n : ℕ) → n % 65536 / 256 ≤ 255
 high_of n = omega arith
 
+flash_most : (flash : List ℕ) (at : ℕ) → AreBytes flash → byte_at flash at ≤ 255
+flash_most flash at bytes = bytes at
+
 pair_most : (d : ℕ) (cpu : Cpu) → CoreWithin cpu → pair_at d cpu ≤ 65535
 pair_most d cpu c = omega (arith, c.bytes d, c.bytes ((d + 1) % 32))
 
@@ -77,7 +81,7 @@ joined : (above below : ℕ) → above ≤ 255 → below ≤ 255 → 256 * above
 joined above below a b = omega arith
 
 -- a core with other registers, and numbers that fit
-ruleset parts = (core_of, set_count, set_bytes, leb-true, flag_of, low_of, word_of, high_of)
+ruleset parts = (core_of, reg_most, set_count, set_bytes, leb-true, flag_of, low_of, word_of, high_of)
 
 module _ {B : Type 0} {Q : B → Type 0} {get : B → ℕ → Result (ℕ × B) StopCause} {put : B → ℕ → ℕ → Result B StopCause} (gives : Gives Q get put) where
   if_in : {R : Type 0} (P : R → Type 0) (b : Bool) (p q : Access R B) → Leaves Q P p → Leaves Q P q → Leaves Q P (cond b p q)
@@ -97,6 +101,18 @@ module _ {B : Type 0} {Q : B → Type 0} {get : B → ℕ → Result (ℕ × B) 
       then_in P P' a a.result rest h.core h.bus h.answer
       (λ value cpu bus p c q. k value cpu.r cpu.sreg cpu.sp cpu.pc cpu.rampz bus p c.count c.bytes c.sreg c.sp c.pc q)
 
+  after_any : {S : Type 0} (P : S → Type 0) (a : Access (Unit {0}) B) (rest : Unit {0} → Cpu → B → Access S B) → Leaves Q IsAny a → Goes Q IsAny P rest
+      → Leaves Q P (then_do a a.result rest)
+  after_any {S} P = next_in IsAny S P
+
+  after_byte : {S : Type 0} (P : S → Type 0) (a : Access ℕ B) (rest : ℕ → Cpu → B → Access S B) → Leaves Q IsByte a → Goes Q IsByte P rest
+      → Leaves Q P (then_do a a.result rest)
+  after_byte {S} P = next_in IsByte S P
+
+  after_word : {S : Type 0} (P : S → Type 0) (a : Access ℕ B) (rest : ℕ → Cpu → B → Access S B) → Leaves Q IsWord a → Goes Q IsWord P rest
+      → Leaves Q P (then_do a a.result rest)
+  after_word {S} P = next_in IsWord S P
+
   -- one that ends
   ends_in : {R : Type 0} (P : R → Type 0) (r : Result R StopCause) (cpu : Cpu) (bus : B) → CoreWithin cpu → Q bus → IfOk r P
       → Leaves Q P (record { result = r; cpu = cpu; bus = bus })
@@ -111,7 +127,7 @@ module _ {B : Type 0} {Q : B → Type 0} {get : B → ℕ → Result (ℕ × B) 
 
   loaded_in : (at : ℕ) (cpu : Cpu) (bus : B) → CoreWithin cpu → Q bus → Leaves Q IsByte (loaded get at cpu bus)
   unfolding loaded
-  loaded_in at cpu bus c q = search (if_in, answered_in, ends_in, one_most, gives.gets, c.bytes, arith) depth 12
+  loaded_in at cpu bus c q = search (if_in, answered_in, ends_in, one_most, gives.gets, reg_most, arith) depth 12
 
   taken_in : (cpu : Cpu) (bus : B) (r : Result B StopCause) → CoreWithin cpu → Q bus → PutIn Q r → Leaves Q IsAny (taken cpu bus r)
   taken_in cpu bus (Ok given) c q got = assumption
@@ -139,11 +155,11 @@ module _ {B : Type 0} {Q : B → Type 0} {get : B → ℕ → Result (ℕ × B) 
 
   pub word_pushed_in : (word : ℕ) (cpu : Cpu) (bus : B) → word ≤ 65535 → CoreWithin cpu → Q bus → Leaves Q IsAny (pushed_word put word cpu bus)
   unfolding pushed_word
-  word_pushed_in word cpu bus small c q = let high : word / 256 ≤ 255 = omega arith in search (next_in IsAny, pushed_in, low_of)
+  word_pushed_in word cpu bus small c q = let high : word / 256 ≤ 255 = omega arith in search (after_any, pushed_in, low_of)
 
   word_popped_in : (cpu : Cpu) (bus : B) → CoreWithin cpu → Q bus → Leaves Q IsWord (popped_word get cpu bus)
   unfolding popped_word
-  word_popped_in cpu bus c q = search (next_in IsByte, popped_in, ends_in, joined)
+  word_popped_in cpu bus c q = search (after_byte, popped_in, ends_in, joined)
 
   -- instructions
 
@@ -156,18 +172,20 @@ module _ {B : Type 0} {Q : B → Type 0} {get : B → ℕ → Result (ℕ × B) 
   unfolding skipping
   skip_most flash on cpu = grind arith
 
-  ruleset steps = (loaded_in, stored_in, pushed_in, popped_in, stopped_in, word_pushed_in, word_popped_in, branched_in, skip_most, pair_most, flag_in, ends_in, parts)
+  ruleset steps = (after_any, after_byte, after_word, loaded_in, stored_in, pushed_in, popped_in, stopped_in, word_pushed_in, word_popped_in, branched_in, skip_most, pair_most, flash_most, flag_in, ends_in, parts)
 
   pub flow_in : (flash : List ℕ) (o : Op) (cpu : Cpu) (bus : B) → OpWithin o → CoreWithin cpu → Q bus → Leaves Q IsShort (flow_effect get put flash o cpu bus)
   unfolding flow_effect skips_by_io calls returns returns_enabling
   flow_in flash (op.Jmp k) cpu bus w c q = search (ends_in, parts)
-  flow_in flash _ cpu bus w c q = search (next_in IsByte, next_in IsAny, next_in IsWord, steps) depth 10
+  flow_in flash _ cpu bus w c q = search steps depth 10
 
   stores_in : (at value words cycles : ℕ) (cpu : Cpu) (bus : B) → value ≤ 255 → cycles ≤ 8 → CoreWithin cpu → Q bus → Leaves Q IsShort (stores put at value words cycles cpu bus)
   unfolding stores
-  stores_in at value words cycles cpu bus small short c q = search (next_in IsAny, stored_in, ends_in, parts)
+  stores_in at value words cycles cpu bus small short c q = search (after_any, stored_in, ends_in, parts)
+
+  ruleset memory_steps = (stores_in, steps)
 
   pub memory_in : (flash : List ℕ) (bytes : AreBytes flash) (o : Op) (cpu : Cpu) (bus : B) → CoreWithin cpu → Q bus → Leaves Q IsShort (memory_effect get put flash o cpu bus)
   unfolding memory_effect loads loads_post_increment loads_pre_decrement stores_post_increment stores_pre_decrement pushes pops sets_bit loads_program_post_increment loads_extended_post_increment
   memory_in flash bytes op.Nop cpu bus c q = search (ends_in, parts)
-  memory_in flash bytes _ cpu bus c q = search (next_in IsByte, next_in IsAny, stores_in, c.bytes, bytes, steps) depth 10
+  memory_in flash bytes _ cpu bus c q = search memory_steps depth 10

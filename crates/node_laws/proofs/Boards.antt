@@ -13,7 +13,7 @@ use Rattle.board_io.specs.declared.clocked.ClockedBoard.{ClockedBoard}
 use Rattle.board_io.specs.declared.rules.Rule.{Rule}
 use Rattle.board_io.specs.declared.rules.Rule.TheVariants as rule
 use Rattle.board_io.specs.Board.{kept_at, reset_board, selected, with_kept}
-use Rattle.board_io.specs.Cycle.{air_by, air_of, board_air, board_answered, board_asks, board_begun, board_sends, is_asks, moved, moved_by, received, sent_by, timers_cycle, transfer_end, usart_cycle, with_moved}
+use Rattle.board_io.specs.Cycle.{air_by, air_of, board_air, board_answered, board_asks, board_begun, board_sends, is_asks, moved_by, received, sent_by, timers_cycle, transfer_end, usart_cycle, with_moved}
 use Rattle.board_io.specs.Kept.{kept_bits}
 use Rattle.board_io.specs.Lines.{entered_beside, entered_of}
 use Rattle.board_io.specs.Registers.{done_in, extended_timer_flags, get_by, got_in, timer_flags, io_get, io_put, put_by, with_spi, with_t0, with_t1, with_t2, with_t3, with_usart}
@@ -35,14 +35,13 @@ use Rattle.serial_ports.specs.Transmission.{ended_byte}
 use Rattle.avr_timers.specs.declared.timer8.Timer8.{Timer8}
 use Rattle.avr_timers.specs.declared.timer16.Timer16.{Timer16}
 use Rattle.serial_ports.specs.declared.radio.TransferOutcome.{TransferOutcome}
-use Rattle.serial_ports.specs.declared.radio.TransferOutcome.TheVariants.{Send, Ask}
+use Rattle.serial_ports.specs.declared.radio.TransferOutcome.TheVariants.{Ask}
 use Rattle.serial_ports.specs.declared.radio.Radio.{Radio}
 use Rattle.serial_ports.specs.Radio.{radio_answered, radio_transfer}
 use Rattle.serial_ports.specs.Spi as spi
 use Rattle.serial_ports.specs.declared.usart_registers.UsartReg.{UsartReg}
 use Rattle.serial_ports.specs.declared.usart_registers.UsartReg.TheVariants as ureg
 use Rattle.serial_ports.specs.UsartRegisters as usart_registers
-use Rattle.serial_ports.specs.Usart as usart
 use Rattle.serial_ports.specs.declared.spi_registers.SpiReg.{SpiReg}
 use Rattle.serial_ports.specs.declared.spi_registers.SpiReg.TheVariants as spireg
 use Rattle.serial_ports.specs.SpiRegisters as spi_registers

@@ -82,6 +82,9 @@ pub core_of : (r : List ℕ) (s : Sreg) (sp pc : ℕ) (rampz : Bool) → length 
     → CoreWithin (record { r = r; sreg = s; sp = sp; pc = pc; rampz = rampz })
 core_of r s sp pc rampz count bytes a b c = assumption
 
+pub reg_most : (d : ℕ) (cpu : Cpu) → CoreWithin cpu → slice_index cpu.r d ≤ 255
+reg_most d cpu h = h.bytes d
+
 -- numbers in an instruction that go to a register or to the program counter
 abbrev pub OpWithin : Op → Type 0
 OpWithin (op.Ori d k) = k ≤ 255
@@ -90,13 +93,13 @@ OpWithin (op.Jmp k) = k ≤ 65535
 OpWithin (op.Call k) = k ≤ 65535
 OpWithin _ = Unit {0}
 
-ruleset results = (core_of, set_count, set_bytes, and_in, or_in, xor_in, half_by, multiplied_word, multiplied_flags, byte_of, sign_in, carries_in, flag_in)
+ruleset results = (core_of, reg_most, set_count, set_bytes, and_in, or_in, xor_in, half_by, multiplied_word, multiplied_flags, byte_of, sign_in, carries_in, flag_in)
 
 effect_in : (o : Op) (cpu : Cpu) → CoreWithin cpu → OpWithin o → CoreWithin (effect o cpu)
 unfolding effect adds subtracts subtracts_with_carry compares compares_with_carry becomes_bits multiplies sets_flag loads_bit swaps added subtracted logical complemented incremented decremented shifted added_word subtracted_word
-effect_in (op.Ori d r) cpu h k = search (results, h.bytes, arith)
+effect_in (op.Ori d r) cpu h k = search (results, arith)
 effect_in op.Nop cpu h k = h
-effect_in _ cpu h k = search (results, h.bytes, arith)
+effect_in _ cpu h k = search (results, arith)
 
 pub arith_in : (o : Op) (cpu : Cpu) → OpWithin o → CoreWithin cpu → CoreWithin (arith_cpu o cpu)
 arith_in o cpu k h = let left = effect_in o cpu h k in search (core_of, arith)

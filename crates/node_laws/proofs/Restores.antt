@@ -31,8 +31,8 @@ use Rattle.node_laws.proofs.Worlds.{node_fixed, node_in}
 
 -- a byte that can have no bit, where the board keeps none, is 0
 kept_none : (r : Rule) (x : ℕ) → is_kept r ≡ false → bit_and x (kept_bits r) ≡ x → x ≡ 0
-kept_none rule.Reserved x e h = cc (and_zero_r x)
-kept_none _ x e h = cc (and_zero_r x)
+kept_none rule.Reserved x e h = let none = and_zero_r x in cc
+kept_none _ x e h = let none = and_zero_r x in cc
 
 io_by : (kept : Bool) (r : Rule) (x : ℕ) → is_kept r ≡ kept → bit_and x (kept_bits r) ≡ x → (if kept then x else 0) ≡ x
 io_by true r x e h = refl

@@ -16,7 +16,6 @@ use Rattle.avr_timers.specs.declared.registers16.Channel.TheVariants as chan
 use Rattle.avr_timers.specs.declared.timer16.Timer16.{Timer16}
 use Rattle.avr_timers.specs.Registers16.{get_of as get_16, put_of as put_16}
 use Rattle.avr_timers.specs.Timer16 as timer16
-use Rattle.device_laws.proofs.Timers.{kept_if}
 use Rattle.node_laws.specs.Within.{Timer8Within, Timer16Within}
 
 -- what a write leaves that stops where a test holds
