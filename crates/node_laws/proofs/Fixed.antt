@@ -40,14 +40,9 @@ entered_same : (t wait : ℕ) (v : Vector) (s : NodeState) → Same s (entered t
 unfolding entered
 entered_same t wait v s = grind arith
 
-acted_same : (t : ℕ) (s : NodeState) (o : Option Vector) → Same s (acted t s o)
-acted_same t s None = kept_if (Same s) s.asleep s (instructed t s) refl (instructed_same t s)
-acted_same t s (Some v) =
-    kept_if (Same s) s.asleep _ _ (entered_same t 7 v s) (kept_if (Same s) s.owed _ _ (instructed_same t s) (entered_same t 3 v s))
-
 cpu_same : (t : ℕ) (s : NodeState) → Same s (cpu_cycle t s)
 unfolding cpu_cycle
-cpu_same t s = kept_if (Same s) (nat_lt 0 s.wait) _ (acted t s (due s)) refl (acted_same t s (due s))
+cpu_same t s = grind (arith, instructed_same t s, entered_same t 7, entered_same t 3)
 
 begun_same : (t : ℕ) (s : NodeState) → Same s (begun_in t s)
 unfolding begun_in devices_cycle

@@ -1,6 +1,7 @@
 -- Within which bounds the calls of USART0, the serial peripheral interface and the radio leave their numbers.
 use Rattle.std.proofs.Common.{◌≡◌, ℕ, suc, ◌+◌, ◌/◌, ◌%◌, ◌^◌, ◌<◌, ◌≤◌, ◌==◌, Bool, false, if◌then◌else◌, refl, Option, Some, None, arith}
 use Rattle.std.specs.Prelude.{IfOk}
+use Rattle.std.proofs.Math.Pow.{pow_mono}
 use Rattle.air_base.specs.declared.bounds.TheConstants.{LONGEST_BYTE}
 use Rattle.std.proofs.lemmas.Bool.{cond_both}
 use Rattle.std.proofs.lemmas.Bool.Decides.{nat_tests}
@@ -51,13 +52,11 @@ none_ended t (Some f) e = grind (arith, nat_tests)
 
 -- USART0
 
-cut_by : (k b : ℕ) → k < 4 → b % 2 ^ (5 + k) ≤ 255
-cut_by (suc (suc (suc (suc k)))) b h = absurd (omega arith)
-cut_by _ b h = omega arith
-
-pub cut_within : (u : Usart) (b : ℕ) → usart.cut u b ≤ 255
+cut_within : (u : Usart) (b : ℕ) → usart.cut u b ≤ 255
 unfolding usart.cut
-cut_within u b = omega (arith, cut_by (u.control_c / 2 % 4) b (omega arith))
+cut_within u b =
+    let some : 2 ^ 0 ≤ 2 ^ usart.data_bits u = pow_mono {i = 0} {j = usart.data_bits u} (omega arith) in
+    omega (arith, pow_mono {i = usart.data_bits u} {j = 8} (omega arith))
 
 -- a frame lasts less than 2^20 cycles
 frame_lasts : (u : Usart) → u.baud < 4096 → (1 ≤ usart.frame_cycles u) × (usart.frame_cycles u ≤ 1048576)
