@@ -95,11 +95,6 @@ module _ (t : ℕ) where
   by_class early class.Memory flash o cpu bus bytes w c q = memory_in (gives early) flash bytes o cpu bus c q
   by_class early (class.Halting cause) flash o cpu bus bytes w c q = assumption
 
-  executed_in : t < 2 ^ 40 → (flash : List ℕ) (o : Op) (cpu : Cpu) (bus : NodeBus) → AreBytes flash → OpWithin o → CoreWithin cpu → BusWithin t bus
-      → Leaves (BusWithin t) IsShort (executed flash o cpu bus)
-  unfolding executed_over
-  executed_in early flash o cpu bus bytes w c q = by_class early (class_of o) flash o cpu bus bytes w c q
-
   entry_in : t < 2 ^ 40 → (word : ℕ) (cpu : Cpu) (bus : NodeBus) → word ≤ 65535 → CoreWithin cpu → BusWithin t bus → Leaves (BusWithin t) IsAny (entry word cpu bus)
   unfolding entry
   entry_in early word cpu bus small c q =
@@ -160,10 +155,10 @@ module _ (t : ℕ) (s : NodeState) (h : StepWithin t t s) where
   now_in = op_in (first_word s) (second_word s) (word_small s.flash h.flash ((s.cpu.pc + 1) % 65536))
 
   instructed_in : t < 2 ^ 40 → StepWithin t (t + 1) (instructed t s)
-  unfolding instructed
+  unfolding instructed executed_over
   instructed_in early =
       let o = executed s.flash (op_now s) s.cpu (bus_at t s) in
-      let k : Leaves (BusWithin t) IsShort o = executed_in t early s.flash (op_now s) s.cpu (bus_at t s) h.flash now_in h.core (bus_in t s h.space) in
+      let k : Leaves (BusWithin t) IsShort o = by_class t early (class_of (op_now s)) s.flash (op_now s) s.cpu (bus_at t s) h.flash now_in h.core (bus_in t s h.space) in
       kept_if (StepWithin t (t + 1)) (is_refused s (op_now s)) _ _ (search arith) (after_in (op_now s) o.result o.cpu o.bus k.core k.bus k.answer)
 
   entry_by : (wait : ℕ) (v : Vector) (a : Access (Unit {0}) NodeBus) (r : Result (Unit {0}) StopCause) → wait ≤ 7 → CoreWithin a.cpu → BusWithin t a.bus

@@ -44,14 +44,10 @@ reserved = refl
 
 module _ (t : ℕ) (b : Board) (states : IsBoard b) (h : BoardWithin t b) where
   -- what is saved of a register is what the board has there
-  io_is : (at : ℕ) → at < 256 → io_at at b ≡ kept_at at b
-  io_is at low = io_by (is_kept (rule_of at)) (rule_of at) (kept_at at b) refl (h.kept at low)
-
-  io_place : (k : ℕ) → k < 224 → slice_index (io_of b) k ≡ io_at (0x20 + k) b
-  io_place k low = get_or-map-range_with_len (λ k. io_at (0x20 + k) b) 0 224 k k 0 low (omega arith)
-
   io_there : (k : ℕ) → k < 224 → slice_index (io_of b) k ≡ kept_at (0x20 + k) b
-  io_there k low = io_place k low ∙ io_is (0x20 + k) (omega (arith, low))
+  io_there k low =
+      get_or-map-range_with_len (λ k. io_at (0x20 + k) b) 0 224 k k 0 low (omega arith)
+      ∙ io_by (is_kept (rule_of (0x20 + k))) (rule_of (0x20 + k)) (kept_at (0x20 + k) b) refl (h.kept (0x20 + k) (omega arith))
 
   io_fit : (k : ℕ) → k < 224 → io_fits (io_of b) k ≡ true
   unfolding is_io
