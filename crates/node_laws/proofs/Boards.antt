@@ -16,7 +16,7 @@ use Rattle.board_io.specs.Board.{kept_at, reset_board, selected, with_kept}
 use Rattle.board_io.specs.Cycle.{air_by, air_of, board_air, board_answered, board_asks, board_begun, board_sends, is_asks, moved_by, received, sent_by, timers_cycle, transfer_end, usart_cycle, with_moved}
 use Rattle.board_io.specs.Kept.{kept_bits}
 use Rattle.board_io.specs.Lines.{entered_beside, entered_of}
-use Rattle.board_io.specs.Registers.{done_in, extended_timer_flags, get_by, got_in, timer_flags, io_get, io_put, put_by, with_spi, with_t0, with_t1, with_t2, with_t3, with_usart}
+use Rattle.board_io.specs.Registers.{done_in, get_by, got_in, io_get, io_put, put_by, with_spi, with_t0, with_t1, with_t2, with_t3, with_usart}
 use Rattle.board_io.specs.Table.{rule_of, start_of}
 use Rattle.device_base.specs.Bits.{any_bit, bit}
 use Rattle.avr_timers.specs.Mode.{number_of}
@@ -143,12 +143,6 @@ bit_most : (flag : Bool) (mask : ℕ) → bit flag mask ≤ mask
 bit_most true mask = omega arith
 bit_most false mask = omega arith
 
-flags_byte : (b : Board) → timer_flags b ≤ 255
-flags_byte b = omega (arith, bit_most)
-
-extended_byte : (b : Board) → extended_timer_flags b ≤ 255
-extended_byte b = omega (arith, bit_most)
-
 pub byte_8 : (tm : Timer8) (reg : Reg8) → tm.select < 8 → Timer8Within tm → registers8.get_of tm reg ≤ 255
 byte_8 tm reg8.Control select h = omega (arith, (select-again tm.ctc tm.select select).1)
 byte_8 tm _ select h = assumption
@@ -182,11 +176,13 @@ byte_spi t s _ h = assumption
 
 -- accesses in cycle t, by the rule of the register
 
-ruleset reads = (kept_byte, flags_byte, extended_byte, byte_8, byte_16, byte_usart, byte_spi, get_16_within, get_usart_within, get_spi_within)
+ruleset reads = (kept_byte, byte_8, byte_16, byte_usart, byte_spi, get_16_within, get_usart_within, get_spi_within)
 
 read_by : (t : ℕ) (r : Rule) (b : Board) (at : ℕ) → IsBoard b → BoardWithin t b → IfOk (get_by r b at) (λ got. (got.0 ≤ 255) × BoardWithin t got.1)
 read_by t rule.Reserved b at states h = tt
 read_by t rule.WatchdogControl b at states h = (omega arith, h)
+read_by t rule.TimerFlags b at states h = (omega (arith, bit_most), h)
+read_by t rule.ExtendedTimerFlags b at states h = (omega (arith, bit_most), h)
 read_by t _ b at states h = search reads
 
 got_within : (t clock : ℕ) (r : Result (ℕ × Board) StopCause) → clock ≡ t → IfOk r (λ got. (got.0 ≤ 255) × BoardWithin t got.1) → ReadWithin t (got_in clock r)
@@ -196,10 +192,6 @@ got_within t clock (Err cause) now h = tt
 pub read_within : (t : ℕ) (c : ClockedBoard) (at : ℕ) → c.clock ≡ t → IsBoard c.board → BoardWithin t c.board → ReadWithin t (io_get c at)
 unfolding io_get
 read_within t c at now states h = got_within t c.clock (get_by (rule_of at) c.board at) now (read_by t (rule_of at) c.board at states h)
-
--- a byte that is kept, where its register has this rule
-keeps : (t : ℕ) (r : Rule) (at x : ℕ) (b : Board) → rule_of at ≡ r → IsBoard b → BoardWithin t b → bit_and x (kept_bits r) ≡ x → BoardWithin t (with_kept at x b)
-keeps t r at x b e states h f = set_kept t b at x states h (rw e f)
 
 -- where none of the bits that stop a write is set, all others stay
 abbrev free_of : ℕ → ℕ → ℕ → Bool
@@ -243,14 +235,14 @@ in_device P Q w (Err cause) h f g = g cause
 
 write_by : (t : ℕ) (r : Rule) (b : Board) (at x : ℕ) → rule_of at ≡ r → at < 256 → x ≤ 255 → t < 2 ^ 40 → IsBoard b → BoardWithin t b
     → IfOk (put_by t r b at x) (BoardWithin t)
-write_by t (rule.Kept mask) b at x e low small early states h = keeps t (rule.Kept mask) at _ b e states h (within x mask)
+write_by t (rule.Kept mask) b at x e low small early states h = set_kept t b at (bit_and x mask) states h (rw e (within x mask))
 write_by t (rule.Guarded bits cause mask) b at x e low small early states h =
     cond_both (any_bit x bits) (Err cause) (Ok (with_kept at (bit_and x mask) b)) (λ r. IfOk r (BoardWithin t)) (λ _. tt)
-    (λ f. keeps t (rule.Guarded bits cause mask) at (bit_and x mask) b e states h (guarded_free at bits mask x cause low small e f))
+    (λ f. set_kept t b at (bit_and x mask) states h (rw e (guarded_free at bits mask x cause low small e f)))
 write_by t rule.ResetFlags b at x e low small early states h =
-    let kept = subst (λ (q : Rule). bit_and (kept_at at b) (kept_bits q) ≡ kept_at at b) e (h.kept at low) in
-    keeps t rule.ResetFlags at _ b e states h (cleared_by (kept_at at b) x kept small (kept_byte t b states h at))
-write_by t rule.CpuControl b at x e low small early states h = let left = keeps t rule.CpuControl at (bit_and x 0x7C) b e states h (within x 0x7C) in search refused
+    let kept = rw e at (h.kept at low) in
+    set_kept t b at (flags_kept (kept_at at b) x) states h (rw e (cleared_by (kept_at at b) x kept small (kept_byte t b states h at)))
+write_by t rule.CpuControl b at x e low small early states h = let left = set_kept t b at (bit_and x 0x7C) states h (rw e (within x 0x7C)) in search refused
 write_by t (rule.Timer0 reg) b at x e low small early states h = in_device Timer8Within (BoardWithin t) (with_t0 b) _ (put_8_within b.t0 reg x small h.t0) (λ tm f. assumption) (λ _. tt)
 write_by t (rule.Timer1 reg) b at x e low small early states h = in_device Timer16Within (BoardWithin t) (with_t1 b) _ (put_16_within b.t1 reg x small h.t1) (λ tm f. assumption) (λ _. tt)
 write_by t (rule.Timer2 reg) b at x e low small early states h = in_device Timer8Within (BoardWithin t) (with_t2 b) _ (put_8_within b.t2 reg x small h.t2) (λ tm f. assumption) (λ _. tt)

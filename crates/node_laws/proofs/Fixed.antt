@@ -1,10 +1,9 @@
 -- What no cycle of a node changes: its number, its program memory, the bytes that arrive, the window, and the byte time
 -- of its radio.
-use Rattle.std.proofs.Common.{◌≡◌, ℕ, arith, nat_lt, List, refl, ◌∙◌, Option, Some, None}
+use Rattle.std.proofs.Common.{◌≡◌, ℕ, arith, List, refl, ◌∙◌}
 use Rattle.avr_base.specs.declared.interrupts.Vector.{Vector}
 use Rattle.device_laws.proofs.Timers.{kept_if}
-use Rattle.node_core.specs.Cycle.{acted, asks_in, begun_in, cpu_cycle, devices_cycle, entered, finished_in, instructed, node_kind}
-use Rattle.node_core.specs.Interrupts.{due}
+use Rattle.node_core.specs.Cycle.{asks_in, begun_in, cpu_cycle, devices_cycle, entered, finished_in, instructed, node_kind}
 use Rattle.node_core.specs.State.{NodeState}
 use Rattle.node_core.proofs.Radio.{gap_begun, gap_finished}
 use Rattle.serial_ports.specs.Script.{ScriptBytes}

@@ -1,5 +1,5 @@
 -- Within which bounds the calls of USART0, the serial peripheral interface and the radio leave their numbers.
-use Rattle.std.proofs.Common.{◌≡◌, ℕ, suc, ◌+◌, ◌/◌, ◌%◌, ◌^◌, ◌<◌, ◌≤◌, ◌==◌, Bool, false, if◌then◌else◌, refl, Option, Some, None, arith}
+use Rattle.std.proofs.Common.{◌≡◌, ℕ, ◌+◌, ◌^◌, ◌<◌, ◌≤◌, ◌==◌, Bool, false, if◌then◌else◌, refl, Option, Some, None, arith}
 use Rattle.std.specs.Prelude.{IfOk}
 use Rattle.std.proofs.Math.Pow.{pow_mono}
 use Rattle.air_base.specs.declared.bounds.TheConstants.{LONGEST_BYTE}
