@@ -3,7 +3,7 @@
 use Rattle.std.proofs.Common.{◌≡◌, ℕ, ◌+◌, ◌*◌, ◌/◌, ◌%◌, ◌^◌, ◌<◌, ◌≤◌, ◌&&◌, Bool, true, false, List, [], ◌∷◌, length, filter, refl, arith, mul-le-mul_right, pow-suc}
 use Rattle.std.specs.Prelude.{nat_le}
 use Rattle.std.proofs.lemmas.Bool.{and_parts, cond_both, leb-true}
-use Rattle.avr_base.proofs.Computed.{all_from, all_from-at}
+use Rattle.std.proofs.Math.Pow.{pow_mono}
 use Rattle.avr_decoder.specs.Opcodes.{K, Row, bits, bits_at, matches, matches_any, op_at, places, rows_at, spelled, table, undefined}
 use Rattle.avr_decoder.specs.declared.op.Op.{Op}
 use Rattle.avr_decoder.specs.declared.op.Op.TheVariants as op
@@ -22,11 +22,8 @@ bits_below (p ∷ ps) before word m h =
     let bit : word / 2 ^ p % 2 < 2 = omega arith in
     bits_below ps (2 * before + word / 2 ^ p % 2) word m (doubled before (word / 2 ^ p % 2) (length ps) m bit (rw pow-suc at h))
 
-powers : all_from (λ k. nat_le (2 ^ k) 256) 0 9 ≡ true
-powers = refl
-
 eight : (letter : ℕ) (pattern : List ℕ) (word : ℕ) → length (places letter 15 pattern) ≤ 8 → spelled letter pattern word < 256
-eight letter pattern word h = bits_below (places letter 15 pattern) 0 word 256 (omega (arith, leb-true _ 256 (all_from-at (λ k. nat_le (2 ^ k) 256) 0 9 (length (places letter 15 pattern)) powers (omega arith) (omega arith))))
+eight letter pattern word h = bits_below (places letter 15 pattern) 0 word 256 (omega (arith, pow_mono h))
 
 -- each row has at most eight bits of a constant
 abbrev narrow : List Row → Bool

@@ -1,20 +1,10 @@
 -- What no cycle of a node changes: its number, its program memory, the bytes that arrive, the window, and the byte time
 -- of its radio.
-use Rattle.std.proofs.Common.{◌≡◌, ℕ, nat_lt, List, refl, ◌∙◌, Option, Some, None, is_some}
-use Rattle.std.specs.Prelude.{Result, Ok, Err}
+use Rattle.std.proofs.Common.{◌≡◌, ℕ, arith, List, refl, ◌∙◌}
 use Rattle.avr_base.specs.declared.interrupts.Vector.{Vector}
-use Rattle.avr_base.specs.declared.stop.StopCause.{StopCause}
-use Rattle.avr_decoder.specs.declared.op.Op.{Op}
-use Rattle.data_space.specs.declared.bus.Done.{Done}
-use Rattle.data_space.specs.declared.cpu.Cpu.{Cpu}
-use Rattle.data_space.specs.Space.{Access}
 use Rattle.device_laws.proofs.Timers.{kept_if}
-use Rattle.node_core.specs.Bus.{bus_at}
-use Rattle.node_core.specs.Cycle.{acted, after_entry, after_instruction, asks_in, begun_in, cpu_cycle, devices_cycle, entered, finished_in, instructed, is_refused, node_kind, op_now}
-use Rattle.node_core.specs.Execute.{executed}
-use Rattle.node_core.specs.Interrupts.{due, entry}
+use Rattle.node_core.specs.Cycle.{asks_in, begun_in, cpu_cycle, devices_cycle, entered, finished_in, instructed, node_kind}
 use Rattle.node_core.specs.State.{NodeState}
-use Rattle.node_core.specs.declared.bus.NodeBus.{NodeBus}
 use Rattle.node_core.proofs.Radio.{gap_begun, gap_finished}
 use Rattle.serial_ports.specs.Script.{ScriptBytes}
 use Rattle.air_base.specs.NodeKind.{ticked}
@@ -27,7 +17,7 @@ pub record Given : Type 0 where
   pub from : ℕ
   pub to : ℕ
 
-abbrev given : NodeState → Given
+abbrev pub given : NodeState → Given
 given s = record { number = s.number; flash = s.flash; script = s.script; from = s.from; to = s.to }
 
 pub record Fixed : Type 0 where
@@ -41,49 +31,24 @@ fixed s = record { given = given s; gap = s.board.radio.byte_time }
 abbrev Same : NodeState → NodeState → Type 0
 Same s u = given u ≡ given s
 
-after_same : (s : NodeState) (o : Op) (r : Result Done StopCause) (cpu : Cpu) (bus : NodeBus) → Same s (after_instruction s o r cpu bus)
-after_same s o (Ok d) cpu bus = refl
-after_same s o (Err cause) cpu bus = refl
-
 instructed_same : (t : ℕ) (s : NodeState) → Same s (instructed t s)
 unfolding instructed
-instructed_same t s =
-    let o = executed s.flash (op_now s) s.cpu (bus_at t s) in
-    kept_if (Same s) (is_refused s (op_now s)) _ _ refl (after_same s (op_now s) o.result o.cpu o.bus)
-
-entry_same : (wait : ℕ) (v : Vector) (s : NodeState) (a : Access (Unit {0}) NodeBus) (r : Result (Unit {0}) StopCause) → Same s (after_entry wait v s a r)
-entry_same wait v s a (Ok done) = refl
-entry_same wait v s a (Err cause) = refl
+instructed_same t s = grind arith
 
 entered_same : (t wait : ℕ) (v : Vector) (s : NodeState) → Same s (entered t wait v s)
 unfolding entered
-entered_same t wait v s = let a = entry v.word s.cpu (bus_at t s) in entry_same wait v s a a.result
-
-acted_same : (t : ℕ) (s : NodeState) (o : Option Vector) → Same s (acted t s o)
-acted_same t s None = kept_if (Same s) s.asleep s (instructed t s) refl (instructed_same t s)
-acted_same t s (Some v) =
-    kept_if (Same s) s.asleep _ _ (entered_same t 7 v s) (kept_if (Same s) s.owed _ _ (instructed_same t s) (entered_same t 3 v s))
+entered_same t wait v s = grind arith
 
 cpu_same : (t : ℕ) (s : NodeState) → Same s (cpu_cycle t s)
 unfolding cpu_cycle
-cpu_same t s = kept_if (Same s) (nat_lt 0 s.wait) _ (acted t s (due s)) refl (acted_same t s (due s))
-
-devices_same : (t : ℕ) (s : NodeState) → Same s (devices_cycle t s)
-unfolding devices_cycle
-devices_same t s = kept_if (Same s) (is_some s.stop) s _ refl refl
+cpu_same t s = grind (arith, instructed_same t s, entered_same t 7, entered_same t 3)
 
 begun_same : (t : ℕ) (s : NodeState) → Same s (begun_in t s)
-unfolding begun_in
-begun_same t s = kept_if (Same s) (is_some s.stop) s _ refl (devices_same t (cpu_cycle t s) ∙ cpu_same t s)
-
-abbrev pair_of : Given → ℕ → Fixed
-pair_of g n = record { given = g; gap = n }
-
-made : (g g' : Given) (n n' : ℕ) → g ≡ g' → n ≡ n' → pair_of g n ≡ pair_of g' n'
-made g g' n n' e f = cc
+unfolding begun_in devices_cycle
+begun_same t s = grind (arith, cpu_same t s)
 
 both_same : (s u : NodeState) → given u ≡ given s → u.board.radio.byte_time ≡ s.board.radio.byte_time → fixed u ≡ fixed s
-both_same s u e f = made (given u) (given s) u.board.radio.byte_time s.board.radio.byte_time e f
+both_same s u e f = cc
 
 fixed_begun : (t : ℕ) (s : NodeState) → fixed (begun_in t s) ≡ fixed s
 fixed_begun t s = both_same s (begun_in t s) (begun_same t s) (gap_begun t s)

@@ -13,10 +13,8 @@ pub mod Decoded
 pub mod Accesses
 -- A cycle of a node leaves its registers, its memory and its counts within their bounds.
 pub mod Nodes
--- A node within its bounds has numbers within theirs.
+-- A node within its bounds has numbers within theirs: each passes its test, and the 108 are at most 2^41.
 pub mod Fits
--- A node within its bounds has 108 numbers of at most 2^41.
-pub mod Widths
 -- What no cycle of a node changes: its number, its program memory, the bytes that arrive, the window, and the byte time
 -- of its radio.
 pub mod Fixed

@@ -1,5 +1,5 @@
 -- A node within its bounds is the node that is restored from its numbers, its I/O bytes and its SRAM.
-use Rattle.std.proofs.Common.{◌≡◌, ℕ, ◌+◌, ◌-◌, ◌^◌, ◌<◌, ◌≤◌, ◌==◌, Bool, true, false, if◌then◌else◌, length, length-append, slice_index, replicate, refl, sym, ap, subst, ◌∙◌, arith, None, is_some, bit_and, inl, inr}
+use Rattle.std.proofs.Common.{◌≡◌, ℕ, ◌+◌, ◌-◌, ◌^◌, ◌<◌, ◌≤◌, ◌==◌, Bool, true, false, if◌then◌else◌, length, length-append, slice_index, replicate, refl, sym, ap, ◌∙◌, arith, None, is_some, bit_and, inl, inr}
 use Rattle.std.proofs.lemmas.List.{ext_get_or, get_or-append-add, get_or-replicate, length-replicate}
 use Rattle.std.proofs.lemmas.List.FromFn.{get_or-map-range_with_len, length-map-range_with_len}
 use Rattle.std.proofs.Math.ListN.{get_or-append, get_or-eq_default}
@@ -25,28 +25,14 @@ use Rattle.node_laws.specs.Node.{AreBytes, NodeWithin}
 use Rattle.node_laws.specs.Scenario.{IsSaved}
 use Rattle.node_laws.proofs.Images.{AreImages}
 use Rattle.node_laws.proofs.Boards.{kept_byte}
-use Rattle.node_laws.proofs.Fixed.{Fixed, fixed}
-use Rattle.node_laws.proofs.Fits.{none_outside_of}
-use Rattle.node_laws.proofs.Widths.{numbers_length, numbers_small}
+use Rattle.node_laws.proofs.Fixed.{Fixed, Given, fixed, given}
+use Rattle.node_laws.proofs.Fits.{none_outside_of, numbers_length, numbers_small}
 use Rattle.node_laws.proofs.Worlds.{node_fixed, node_in}
 
 -- a byte that can have no bit, where the board keeps none, is 0
 kept_none : (r : Rule) (x : ℕ) → is_kept r ≡ false → bit_and x (kept_bits r) ≡ x → x ≡ 0
-kept_none rule.Reserved x e h = sym h ∙ and_zero_r x
-kept_none (rule.Pin port) x e h = sym h ∙ and_zero_r x
-kept_none (rule.Kept mask) x e h = absurd (cc)
-kept_none (rule.Guarded bits cause mask) x e h = absurd (cc)
-kept_none rule.WatchdogControl x e h = sym h ∙ and_zero_r x
-kept_none rule.ResetFlags x e h = absurd (cc)
-kept_none rule.CpuControl x e h = absurd (cc)
-kept_none rule.TimerFlags x e h = sym h ∙ and_zero_r x
-kept_none rule.ExtendedTimerFlags x e h = sym h ∙ and_zero_r x
-kept_none (rule.Timer0 reg) x e h = sym h ∙ and_zero_r x
-kept_none (rule.Timer1 reg) x e h = sym h ∙ and_zero_r x
-kept_none (rule.Timer2 reg) x e h = sym h ∙ and_zero_r x
-kept_none (rule.Timer3 reg) x e h = sym h ∙ and_zero_r x
-kept_none (rule.Usart0 reg) x e h = sym h ∙ and_zero_r x
-kept_none (rule.Spi reg) x e h = sym h ∙ and_zero_r x
+kept_none rule.Reserved x e h = let none = and_zero_r x in cc
+kept_none _ x e h = let none = and_zero_r x in cc
 
 io_by : (kept : Bool) (r : Rule) (x : ℕ) → is_kept r ≡ kept → bit_and x (kept_bits r) ≡ x → (if kept then x else 0) ≡ x
 io_by true r x e h = refl
@@ -58,14 +44,10 @@ reserved = refl
 
 module _ (t : ℕ) (b : Board) (states : IsBoard b) (h : BoardWithin t b) where
   -- what is saved of a register is what the board has there
-  io_is : (at : ℕ) → at < 256 → io_at at b ≡ kept_at at b
-  io_is at low = io_by (is_kept (rule_of at)) (rule_of at) (kept_at at b) refl (h.kept at low)
-
-  io_place : (k : ℕ) → k < 224 → slice_index (io_of b) k ≡ io_at (0x20 + k) b
-  io_place k low = get_or-map-range_with_len (λ k. io_at (0x20 + k) b) 0 224 k k 0 low (omega arith)
-
   io_there : (k : ℕ) → k < 224 → slice_index (io_of b) k ≡ kept_at (0x20 + k) b
-  io_there k low = io_place k low ∙ io_is (0x20 + k) (omega (arith, low))
+  io_there k low =
+      get_or-map-range_with_len (λ k. io_at (0x20 + k) b) 0 224 k k 0 low (omega arith)
+      ∙ io_by (is_kept (rule_of (0x20 + k))) (rule_of (0x20 + k)) (kept_at (0x20 + k) b) refl (h.kept (0x20 + k) (omega arith))
 
   io_fit : (k : ℕ) → k < 224 → io_fits (io_of b) k ≡ true
   unfolding is_io
@@ -97,15 +79,12 @@ module _ (t : ℕ) (b : Board) (states : IsBoard b) (h : BoardWithin t b) where
   kept_at_is at low =
       elim (cases_lt at 32) [
         | inl below ↦
-            let front : slice_index (kept_of (io_of b)) at ≡ slice_index (replicate 32 0) at = get_or-append (replicate 32 0) (io_of b) 0 at (omega (arith, length-replicate {A = ℕ} 32 0, below)) in
-            low_zero at below ∙ sym (front ∙ get_or-replicate {A = ℕ} 32 at 0 0 below)
+            low_zero at below ∙ sym (get_or-append (replicate 32 0) (io_of b) 0 at (omega (arith, length-replicate {A = ℕ} 32 0)) ∙ get_or-replicate {A = ℕ} 32 at 0 0 below)
         | inr above ↦
             let k : ℕ = at - 32 in
-            let few : k < 224 = omega (arith, low, above) in
             let there : 0x20 + k ≡ at = omega (arith, above) in
-            let back : slice_index (kept_of (io_of b)) (length (replicate {A = ℕ} 32 0) + k) ≡ slice_index (io_of b) k = get_or-append-add (replicate 32 0) (io_of b) k 0 in
-            let place : length (replicate {A = ℕ} 32 0) + k ≡ at = omega (arith, length-replicate {A = ℕ} 32 0, there) in
-            ap (λ n. kept_at n b) (sym there) ∙ sym (io_there k few) ∙ sym back ∙ ap (slice_index (kept_of (io_of b))) place
+            let back : slice_index (kept_of (io_of b)) (0x20 + k) ≡ slice_index (io_of b) k = get_or-append-add (replicate 32 0) (io_of b) k 0 in
+            rw (← there) (sym (back ∙ io_there k (omega arith)))
       ]
 
   kept_whole : b.kept ≡ kept_of (io_of b)
@@ -114,17 +93,7 @@ module _ (t : ℕ) (b : Board) (states : IsBoard b) (h : BoardWithin t b) where
       (λ at low. kept_at_is at (omega (arith, states.count, low)))
 
   pub board_restored : (byte_time : ℕ) → b.radio.byte_time ≡ byte_time → board.IsRestored byte_time (board.numbers_of b) (io_of b) b
-  board_restored byte_time gap = record {
-    numbers = refl;
-    kept = kept_whole;
-    own = states.t0.prescaler_is;
-    shared = states.t2.prescaler_is;
-    select0 = states.t0.select;
-    select1 = omega (arith, states.t1.select);
-    select2 = states.t2.select;
-    select3 = omega (arith, states.t3.select);
-    gap = gap;
-  }
+  board_restored byte_time gap = search (kept_whole, arith)
 
 module _ (sc : ScenarioOf) (is : IsScenario sc) (images : AreImages sc) (k c : ℕ) (late : c ≤ sc.topo.limit) where
   pub restored : IsRestoredIn sc k (numbers_of (node_at (fleet_of sc) k c)) (io_of (node_at (fleet_of sc) k c).board) (node_at (fleet_of sc) k c).sram (node_at (fleet_of sc) k c)
@@ -136,19 +105,10 @@ module _ (sc : ScenarioOf) (is : IsScenario sc) (images : AreImages sc) (k c : �
       let len : length u.cpu.r ≡ 32 = h.core.count in
       let has : Has (numbers_of u) u = has-numbers (numbers_of u) u len refl in
       let gap : u.board.radio.byte_time ≡ sc.topo.byte_time = ap (λ (f : Fixed). f.gap) same in
-      let b : board.IsRestored sc.topo.byte_time (board.numbers_of u.board) (io_of u.board) u.board =
-      board_restored (if is_some u.stop then 0 else c) u.board h.space.states h.space.board sc.topo.byte_time gap in
-      record {
-        number = ap (λ (f : Fixed). f.given.number) same;
-        flash = ap (λ (f : Fixed). f.given.flash) same;
-        script = ap (λ (f : Fixed). f.given.script) same;
-        from = ap (λ (f : Fixed). f.given.from) same;
-        to = ap (λ (f : Fixed). f.given.to) same;
-        registers = len;
-        numbers = refl;
-        board = subst (λ n. board.IsRestored sc.topo.byte_time n (io_of u.board) u.board) has.board b;
-        sram = refl;
-      }
+      let g : given u ≡ given s = ap (λ (f : Fixed). f.given) same in
+      let b = board_restored (if is_some u.stop then 0 else c) u.board h.space.states h.space.board sc.topo.byte_time gap in
+      let board = rw has.board at b in
+      search (len, ap (λ (v : Given). v.number) g, ap (λ (v : Given). v.flash) g, ap (λ (v : Given). v.script) g, ap (λ (v : Given). v.from) g, ap (λ (v : Given). v.to) g)
 
 -- what is saved of it
 pub saved : (sc : ScenarioOf) (k c : ℕ) → IsScenario sc → AreImages sc → c ≤ sc.topo.limit → IsSaved sc k c (node_at (fleet_of sc) k c)

@@ -1,5 +1,5 @@
 -- Each node of the global order is within its bounds at the beginning of each cycle.
-use Rattle.std.proofs.Common.{◌≡◌, ℕ, zero, suc, ◌+◌, ◌-◌, ◌^◌, ◌<◌, ◌≤◌, min, List, [], ◌∷◌, length, refl, sym, subst, ◌∙◌, arith, Option, Some, None, filter, inl, inr}
+use Rattle.std.proofs.Common.{◌≡◌, ℕ, zero, suc, ◌+◌, ◌-◌, ◌^◌, ◌<◌, ◌≤◌, List, [], ◌∷◌, length, refl, sym, subst, ◌∙◌, arith, Option, Some, None, filter, inl, inr}
 use Rattle.std.specs.List.{All}
 use Rattle.std.proofs.lemmas.List.Elements.{All-append, All-cons, All-filter, All-head, All-nil, All-tail}
 use Rattle.std.proofs.lemmas.Nat.{or_lt}
@@ -34,13 +34,10 @@ or_in (x ∷ xs) h =
     let one : x.byte ≤ 255 = All-head IsByteSend x xs h in
     or_lt 8 x.byte (or_of xs) (omega (arith, one)) (or_in xs (All-tail IsByteSend x xs h))
 
-least : (n : ℕ) → min 255 n ≤ 255
-least n = omega arith
-
 from_in : (age : Send → ℕ) (xs : List Send) → All IsByteSend xs → HeardWithin (heard_from age xs)
-from_in age [] h = record { status = omega arith; byte = omega arith; age = omega arith }
-from_in age (x ∷ []) h = record { status = omega arith; byte = All-head IsByteSend x [] h; age = least (age x) }
-from_in age (x ∷ y ∷ xs) h = record { status = omega arith; byte = omega (arith, or_in (x ∷ y ∷ xs) h); age = omega arith }
+from_in age [] h = omega arith
+from_in age (x ∷ []) h = omega (arith, All-head IsByteSend x [] h)
+from_in age (x ∷ y ∷ xs) h = omega (arith, or_in (x ∷ y ∷ xs) h)
 
 heard_in : (t : Topology) (sends : List Send) (j s : ℕ) → All IsByteSend sends → HeardWithin (heard t sends j s)
 unfolding heard
