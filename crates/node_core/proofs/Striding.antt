@@ -36,10 +36,7 @@ pub record IsStriding (t at end : ℕ) (old m : Machine) : Type 0 where
 -- a sprint from there on
 module _ {t at end c : ℕ} {inside : Bool} {old m x : Machine} (i : IsStriding t at end old m) (q : IsSprinted at c inside m x) where
   place : c ≡ t + (c - t)
-  place =
-      let from = i.from in
-      let later = q.from in
-      omega (arith, from, later)
+  place = let from = i.from in let later = q.from in omega (arith, from, later)
 
   pub inside_midway : inside ≡ true → IsMidway (timed t old) (t + (c - t)) (shown x) x.rows.items
   inside_midway is =
@@ -47,11 +44,7 @@ module _ {t at end c : ℕ} {inside : Bool} {old m x : Machine} (i : IsStriding 
       (joined (timed t old) at c (shown m) (shown x) m.rows.items x.rows.items i.comes (q.midway is))
 
   pub inside_room : vec_len x.rows + 3 ≤ vec_capacity x.rows
-  inside_room =
-      let len = q.len in
-      let wide = q.room in
-      let room = i.room in
-      omega (arith, len, wide, room)
+  inside_room = let len = q.len in let wide = q.room in let room = i.room in omega (arith, len, wide, room)
 
   module _ (none : inside ≡ false) where
     len : vec_len x.rows ≡ vec_len m.rows
@@ -77,10 +70,7 @@ module _ {t at end c : ℕ} {inside : Bool} {old m x : Machine} (i : IsStriding 
       }
 
       more : y.count ≤ LAST_CYCLE + c + 1
-      more =
-          let few = q.few none in
-          let one = one_more c (shown x) (shown y) a.state in
-          omega (arith, few, one)
+      more = let few = q.few none in let one = one_more c (shown x) (shown y) a.state in omega (arith, few, one)
 
       script : y.script ≡ old.script
       script = arrives_still c (shown x) (shown y) a.state ∙ (q.script none ∙ i.script)

@@ -182,11 +182,7 @@ module _ {t end : ℕ} {first : Machine} (x : Turn t end first) where
 
   pub few : x.count ≤ LAST_CYCLE + LAST_CYCLE + 1
   few =
-      let more = x.step.count in
-      let most = x.inner.turns.runs.count in
-      let within = x.inner.turns.within in
-      let early = x.early in
-      omega (arith, more, most, within, early)
+      let more = x.step.count in let most = x.inner.turns.runs.count in let within = x.inner.turns.within in let early = x.early in omega (arith, more, most, within, early)
 
   -- an instruction that was owed up to this one is none
   pub owed_no_more : nat_lt x.count x.owed_to ≡ false
@@ -238,24 +234,13 @@ module _ {t end : ℕ} {first : Machine} (x : Turn t end first) where
         (goes t at first stood x.inner.turns.runs x.n w free x.step (with_io x.bus io) calm (λ i. let u : NodeState = record (shown w) { board = next i } in u) there)
 
     later : x.self.bus.io.clock < io.clock
-    later =
-        let some = x.step.some in
-        let same = x.step.clock in
-        let clock = p.clock in
-        omega (arith, some, same, clock)
+    later = let some = x.step.some in let same = x.step.clock in let clock = p.clock in omega (arith, some, same, clock)
 
     pub below : x.bus.io.clock < bound
-    below =
-        let some = x.step.some in
-        let within = p.within in
-        omega (arith, some, within)
+    below = let some = x.step.some in let within = p.within in omega (arith, some, within)
 
     pub fewer : end - io.clock < end - x.self.bus.io.clock
-    fewer =
-        let on = later in
-        let clock = p.clock in
-        let within = p.within in
-        omega (arith, on, clock, within, upto)
+    fewer = let on = later in let clock = p.clock in let within = p.within in omega (arith, on, clock, within, upto)
 
     goes_on : (owed flags : ℕ) → owed ≤ x.count + 1 → nat_lt x.count owed ≡ x.owes → nat_lt flags 128 ≡ nat_lt x.on.sreg.bits 128
         → (nat_lt x.on.sreg.bits 128 ≡ false → (lines_of x.bus.io.board).bits ≡ 0) → IsInner t end first x.began (at_io io) x.to x.on owed x.slots flags bound
@@ -293,10 +278,7 @@ module _ {t end : ℕ} {first : Machine} (x : Turn t end first) where
 
     -- a leap of n cycles behind it, from cycle r on
     pub fewer_left : (r n : ℕ) {c : ℕ} → r ≡ io.clock → c ≡ r + n → r + n ≤ end → end - c < end - x.began.bus.io.clock
-    fewer_left r n now there up =
-        let last = x.inner.on in
-        let on = later in
-        omega (arith, last, on, now, there, up)
+    fewer_left r n now there up = let last = x.inner.on in let on = later in omega (arith, last, on, now, there, up)
 
   -- it left the board and the flag I
   pub keeps_calm : {io : ClockedBoard} → IsPast x.n x.bound x.bus.io io → x.owes ≡ false → x.bus.io ≡ x.self.bus.io → nat_lt x.on.sreg.bits 128 ≡ nat_lt x.core.sreg.bits 128
