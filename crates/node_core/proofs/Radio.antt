@@ -36,13 +36,15 @@ devices_stopped : (t : ℕ) (s : NodeState) → is_some s.stop ≡ true → devi
 unfolding devices_cycle
 devices_stopped t s e = rw e refl
 
-devices_free : (t : ℕ) (s : NodeState) (b : Bool) → is_some s.stop ≡ b → (radio_of s).free ≤ (radio_of (devices_cycle t s)).free
-devices_free t s true e = subst (λ (u : NodeState). (radio_of s).free ≤ (radio_of u).free) (sym (devices_stopped t s e)) (omega arith)
-devices_free t s false e = subst (λ (u : NodeState). (radio_of s).free ≤ (radio_of u).free) (sym (devices_move t s e)) (board.begun_free t (script_byte s.script t) s.board)
+-- no send becomes possible earlier, and two lie as far apart as before
+abbrev Onward : Radio → Radio → Type 0
+Onward a b = (a.free ≤ b.free) × (b.byte_time ≡ a.byte_time)
 
-devices_gap : (t : ℕ) (s : NodeState) (b : Bool) → is_some s.stop ≡ b → (radio_of (devices_cycle t s)).byte_time ≡ (radio_of s).byte_time
-devices_gap t s true e = ap (λ (u : NodeState). (radio_of u).byte_time) (devices_stopped t s e)
-devices_gap t s false e = ap (λ (u : NodeState). (radio_of u).byte_time) (devices_move t s e) ∙ board.begun_gap t (script_byte s.script t) s.board
+devices_on : (t : ℕ) (s : NodeState) (b : Bool) → is_some s.stop ≡ b → Onward (radio_of s) (radio_of (devices_cycle t s))
+devices_on t s true e = subst (λ (u : NodeState). Onward (radio_of s) (radio_of u)) (sym (devices_stopped t s e)) (omega arith, refl)
+devices_on t s false e =
+    subst (λ (u : NodeState). Onward (radio_of s) (radio_of u)) (sym (devices_move t s e))
+    (board.begun_free t (script_byte s.script t) s.board, board.begun_gap t (script_byte s.script t) s.board)
 
 none_some : (b : ℕ) → None ≡ Some b → ⊥
 none_some b e = cc
@@ -70,32 +72,26 @@ devices_apart t s true e h = silenced t s e
 devices_apart t s false e h = devices_send t s e ∙ board.asks_apart t s.board (sym (devices_ask t s e) ∙ h)
 
 -- ---- through a cycle
-stopped_begun : (t : ℕ) (s : NodeState) → is_some s.stop ≡ true → begun_in t s ≡ s
+pub stopped_begun : (t : ℕ) (s : NodeState) → is_some s.stop ≡ true → begun_in t s ≡ s
 unfolding begun_in
 stopped_begun t s e = rw e refl
 
-stopped_sends : (t : ℕ) (s : NodeState) → is_some s.stop ≡ true → sends_in t s ≡ None
+pub stopped_sends : (t : ℕ) (s : NodeState) → is_some s.stop ≡ true → sends_in t s ≡ None
 unfolding sends_in
 stopped_sends t s e = rw e refl
 
-free_case : (t : ℕ) (s : NodeState) (b : Bool) → is_some s.stop ≡ b → (radio_of s).free ≤ (radio_of (begun_in t s)).free
-free_case t s true e = subst (λ (u : NodeState). (radio_of s).free ≤ (radio_of u).free) (sym (stopped_begun t s e)) (omega arith)
-free_case t s false e =
+on_case : (t : ℕ) (s : NodeState) (b : Bool) → is_some s.stop ≡ b → Onward (radio_of s) (radio_of (begun_in t s))
+on_case t s true e = subst (λ (u : NodeState). Onward (radio_of s) (radio_of u)) (sym (stopped_begun t s e)) (omega arith, refl)
+on_case t s false e =
     let c : NodeState = cpu_cycle t s in
-    subst (λ (u : NodeState). (radio_of s).free ≤ (radio_of u).free) (sym (begun_parts t s e))
-    (subst (λ (r : Radio). r.free ≤ (radio_of (devices_cycle t c)).free) (cpu_radio t s) (devices_free t c (is_some c.stop) refl))
+    subst (λ (u : NodeState). Onward (radio_of s) (radio_of u)) (sym (begun_parts t s e))
+    (subst (λ (r : Radio). Onward r (radio_of (devices_cycle t c))) (cpu_radio t s) (devices_on t c (is_some c.stop) refl))
 
 pub free_begun : (t : ℕ) (s : NodeState) → (radio_of s).free ≤ (radio_of (begun_in t s)).free
-free_begun t s = free_case t s (is_some s.stop) refl
-
-gap_case : (t : ℕ) (s : NodeState) (b : Bool) → is_some s.stop ≡ b → (radio_of (begun_in t s)).byte_time ≡ (radio_of s).byte_time
-gap_case t s true e = ap (λ (u : NodeState). (radio_of u).byte_time) (stopped_begun t s e)
-gap_case t s false e =
-    let c : NodeState = cpu_cycle t s in
-    ap (λ (u : NodeState). (radio_of u).byte_time) (begun_parts t s e) ∙ (devices_gap t c (is_some c.stop) refl ∙ ap (λ (r : Radio). r.byte_time) (cpu_radio t s))
+free_begun t s = (on_case t s (is_some s.stop) refl).0
 
 pub gap_begun : (t : ℕ) (s : NodeState) → (radio_of (begun_in t s)).byte_time ≡ (radio_of s).byte_time
-gap_begun t s = gap_case t s (is_some s.stop) refl
+gap_begun t s = (on_case t s (is_some s.stop) refl).1
 
 sends_case : (t b : ℕ) (s : NodeState) (c : Bool) → is_some s.stop ≡ c → sends_in t s ≡ Some b
     → ((radio_of s).free ≤ t) × (t + (radio_of s).byte_time ≡ (radio_of (begun_in t s)).free)
@@ -112,7 +108,7 @@ sends_free t b s h = (sends_case t b s (is_some s.stop) refl h).0
 pub sends_next : (t b : ℕ) (s : NodeState) → sends_in t s ≡ Some b → t + (radio_of s).byte_time ≤ (radio_of (begun_in t s)).free
 sends_next t b s h = let e = (sends_case t b s (is_some s.stop) refl h).1 in omega arith
 
-stopped_asks : (t : ℕ) (s : NodeState) → is_some s.stop ≡ true → asks_in t s ≡ false
+pub stopped_asks : (t : ℕ) (s : NodeState) → is_some s.stop ≡ true → asks_in t s ≡ false
 unfolding asks_in
 stopped_asks t s e = rw e refl
 

@@ -129,16 +129,9 @@ nine : (n : List ℕ) → length n ≡ 108 → from_places (slice_index n) 32 9 
 nine n len =
     let part-len : length (part 32 9 n) ≡ 9 = omega (arith, length-take 9 (drop 32 n), length-drop 32 n) in
     let whole = by-places (part 32 9 n) 9 part-len in
-    let a = sym (at-place 32 n 9 0 (omega arith)) in
-    let b = sym (at-place 32 n 9 1 (omega arith)) in
-    let c = sym (at-place 32 n 9 2 (omega arith)) in
-    let d = sym (at-place 32 n 9 3 (omega arith)) in
-    let e = sym (at-place 32 n 9 4 (omega arith)) in
-    let f = sym (at-place 32 n 9 5 (omega arith)) in
-    let g = sym (at-place 32 n 9 6 (omega arith)) in
-    let h = sym (at-place 32 n 9 7 (omega arith)) in
-    let i = sym (at-place 32 n 9 8 (omega arith)) in
-    same-list a (same-list b (same-list c (same-list d (same-list e (same-list f (same-list g (same-list h (same-list i refl)))))))) ∙ whole
+    let at = λ (i : ℕ) (low : i < 9). sym (at-place 32 n 9 i low) in
+    let a = same-list (at 5 (omega arith)) (same-list (at 6 (omega arith)) (same-list (at 7 (omega arith)) (same-list (at 8 (omega arith)) refl))) in
+    same-list (at 0 (omega arith)) (same-list (at 1 (omega arith)) (same-list (at 2 (omega arith)) (same-list (at 3 (omega arith)) (same-list (at 4 (omega arith)) a)))) ∙ whole
 
 pub record Has (n : List ℕ) (s : NodeState) : Type 0 where
   pub registers : s.cpu.r ≡ take 32 n
@@ -214,27 +207,6 @@ one-state cycle number flash script from to byte_time n io sram a b fit h k =
 
 -- ---- the state of the numbers
 
--- the numbers of the core behind the registers, where a state's parts are read from them
-pub tail-made : (n : List ℕ) (s : NodeState) → length n ≡ 108 → IsCore n
-    → s.cpu ≡ cpu_of n
-    → s.wait ≡ slice_index n 36
-    → s.owed ≡ (slice_index n 37 == 1)
-    → s.asleep ≡ (slice_index n 38 == 1)
-    → stop_number s.stop ≡ slice_index n 39
-    → s.count ≡ slice_index n 40
-    → core_tail s ≡ part 32 9 n
-tail-made n s len w cpu wait owed asleep stop count =
-    let rampz = ap (λ (cpu : Cpu). bit cpu.rampz 1) cpu ∙ bit-flag (slice_index n 35) w.rampz in
-    let flag = ap (λ b. bit b 1) owed ∙ bit-flag (slice_index n 37) w.owed in
-    let sleep = ap (λ b. bit b 1) asleep ∙ bit-flag (slice_index n 38) w.asleep in
-    let sreg = ap (λ (cpu : Cpu). cpu.sreg.bits) cpu in
-    let sp = ap (λ (cpu : Cpu). cpu.sp) cpu in
-    let pc = ap (λ (cpu : Cpu). cpu.pc) cpu in
-    let last = same-list stop (same-list count refl) in
-    let flags = same-list flag (same-list sleep last) in
-    let made = same-list sreg (same-list sp (same-list pc (same-list rampz (same-list wait flags)))) in
-    made ∙ nine n len
-
 -- a state whose parts are read from the numbers
 pub record Made (n : List ℕ) (s : NodeState) : Type 0 where
   pub cpu : s.cpu ≡ cpu_of n
@@ -244,13 +216,26 @@ pub record Made (n : List ℕ) (s : NodeState) : Type 0 where
   pub stop : stop_number s.stop ≡ slice_index n 39
   pub count : s.count ≡ slice_index n 40
 
--- has them
+-- has those of the core behind the registers
+tail-made : (n : List ℕ) (s : NodeState) → length n ≡ 108 → IsCore n → Made n s → core_tail s ≡ part 32 9 n
+tail-made n s len w m =
+    let rampz = ap (λ (cpu : Cpu). bit cpu.rampz 1) m.cpu ∙ bit-flag (slice_index n 35) w.rampz in
+    let flag = ap (λ b. bit b 1) m.owed ∙ bit-flag (slice_index n 37) w.owed in
+    let sleep = ap (λ b. bit b 1) m.asleep ∙ bit-flag (slice_index n 38) w.asleep in
+    let sreg = ap (λ (cpu : Cpu). cpu.sreg.bits) m.cpu in
+    let sp = ap (λ (cpu : Cpu). cpu.sp) m.cpu in
+    let pc = ap (λ (cpu : Cpu). cpu.pc) m.cpu in
+    let flags = same-list flag (same-list sleep (same-list m.stop (same-list m.count refl))) in
+    let made = same-list sreg (same-list sp (same-list pc (same-list rampz (same-list m.wait flags)))) in
+    made ∙ nine n len
+
+-- and all
 pub made-numbers : (n : List ℕ) (s : NodeState) → length n ≡ 108 → IsCore n → Made n s → board.numbers_of s.board ≡ part 41 67 n → numbers_of s ≡ n
 made-numbers n s len w m b =
     numbers-has n s len
     (record {
       registers = ap (λ (cpu : Cpu). cpu.r) m.cpu;
-      tail = tail-made n s len w m.cpu m.wait m.owed m.asleep m.stop m.count;
+      tail = tail-made n s len w m;
       board = b;
     })
 

@@ -1,16 +1,12 @@
 -- A sprint: what holds of it at the beginning of a cycle, and how a step takes it on or ends it.
-use Rattle.std.proofs.Common.{◌≡◌, ℕ, ◌+◌, ◌-◌, ◌/◌, ◌%◌, ◌≤◌, ◌<◌, ◌++◌, ◌&&◌, nat_le, nat_lt, Bool, cond, not, true, false, Option, Some, None, List, is_some, refl, sym, subst, ap, ◌∙◌, arith}
+use Rattle.std.proofs.Common.{◌≡◌, ℕ, ◌+◌, ◌-◌, ◌/◌, ◌%◌, ◌≤◌, ◌<◌, ◌++◌, nat_lt, Bool, cond, true, false, Option, Some, None, List, is_some, refl, sym, subst, ap, ◌∙◌, arith}
 use Rattle.std.proofs.lemmas.Bool.{false≢true}
 use Rattle.std.proofs.lemmas.Bool.Decides.{nat_tests}
-use Rattle.std.specs.Bool.{beq}
 use Rattle.std.specs.Prelude.{vec_len, vec_capacity}
 use Rattle.air_base.specs.Bounds.{LAST_CYCLE}
 use Rattle.avr_base.specs.Flags.{I, has_flag}
-use Rattle.avr_base.specs.declared.interrupts.Lines.{Lines}
 use Rattle.avr_base.specs.Lines.{lowest_line, pending_of, vector_of}
-use Rattle.board_io.specs.declared.clocked.ClockedBoard.{ClockedBoard}
 use Rattle.board_io.specs.Cycle.{timers_leap}
-use Rattle.board_io.specs.Lagging.{IsIdle}
 use Rattle.board_io.specs.Lines.{lines_of}
 use Rattle.air_base.specs.NodeRun.{Comes, Timed}
 use Rattle.air_base.proofs.QuietCycles.{comes_none}
@@ -19,18 +15,14 @@ use Rattle.node_core.specs.declared.machine.Machine.{Machine}
 use Rattle.node_core.specs.declared.row.Row.{Row}
 use Rattle.node_core.specs.declared.row.Kind.TheVariants as kind
 use Rattle.avr_base.specs.declared.stop.StopCause.{StopCause}
-use Rattle.data_space.specs.declared.cpu.Core.{Core}
-use Rattle.data_space.specs.declared.cpu.Registers.{Registers}
 use Rattle.serial_ports.specs.Script.{ScriptBytes, script_byte}
-use Rattle.node_core.specs.Bus.{with_io}
 use Rattle.node_core.specs.Cycle.{instructed, instructed_rows, node_kind, row}
 use Rattle.node_core.specs.Inside.{IsCalm, MayAct, is_told}
 use Rattle.node_core.specs.Interrupts.{due}
-use Rattle.node_core.specs.Pace.Midway.{IsActed, IsMidway, IsSprinted, IsSprinting, IsStepped, IsStopping, IsTurning, MayEnd, beside, over, owing, turned_on}
+use Rattle.node_core.specs.Pace.Midway.{IsActed, IsMidway, IsSprinted, IsSprinting, IsStepped, IsStopping}
 use Rattle.node_core.specs.Shown.{shown}
 use Rattle.node_core.specs.State.{NodeState}
 use Rattle.node_core.proofs.Acts.{one_more, one_row}
-use Rattle.node_core.proofs.Cores.{same_bits}
 use Rattle.node_core.proofs.Ran.{goes_on}
 use Rattle.node_core.proofs.Steps.{began, comes_on, ended, went}
 
@@ -231,131 +223,3 @@ untold t at end old m opens closes from none i l =
     let there : t + (at - t + i) ≡ at + i = omega (arith, from) in
     (λ j. is_told (opens j) (closes j) (at + i))
     ∙ subst (λ (u : ℕ). is_told old.from old.to u ≡ false) there (none (at - t + i) (omega (arith, l, from)))
-
--- ---- a machine whose core stands beside it, with what it owes
-abbrev pub turning : Machine → Registers → Core → ℕ → Machine
-turning self regs core owed_to = owing (nat_lt self.count owed_to) (beside regs core self)
-
-pub acts : (t end : ℕ) (first self : Machine) (regs : Registers) (core : Core) (owed_to : ℕ) (h : IsTurning t end first self regs core owed_to)
-    → end ≤ LAST_CYCLE → vec_len first.rows < vec_capacity first.rows → MayAct self.bus.io.clock (turning self regs core owed_to)
-acts t end first self regs core owed_to h early room =
-    let within = h.within in may t self.bus.io.clock first (turning self regs core owed_to) h.runs (omega (arith, within, early)) room
-
--- the instruction that begins now is not told
-pub still : (t end : ℕ) (first self : Machine) (regs : Registers) (core : Core) (owed_to : ℕ) (h : IsTurning t end first self regs core owed_to)
-    → ((i : ℕ) → t + i ≤ end → is_told first.from first.to (t + i) ≡ false) → is_told self.from self.to self.bus.io.clock ≡ false
-still t end first self regs core owed_to h none =
-    let at : ℕ = self.bus.io.clock in
-    let within = h.within in
-    let here : at + 0 ≡ at = omega arith in
-    subst (λ (u : ℕ). is_told self.from self.to u ≡ false) here
-    (untold t at end first (turning self regs core owed_to) h.runs.opens h.runs.closes h.runs.from none 0 (omega (arith, within)))
-
--- ---- a step of a sprint, of n cycles
-module _ (t end : ℕ) (first self : Machine) (regs : Registers) (core : Core) (owed_to : ℕ) (h : IsTurning t end first self regs core owed_to)
-    (n : ℕ) (to : Registers) (on : Core) (bus : NodeBus) (count : ℕ) (b : Bool)
-    (p : IsStepped self.bus.io.clock n (turning self regs core owed_to) (owing b (over to on bus count self))) where
-  abbrev m : Machine
-  m = turning self regs core owed_to
-
-  abbrev on_io : ClockedBoard → Machine
-  on_io io = record self { bus = with_io bus io; count = count }
-
-  pub turn_free : due (shown m) ≡ None
-  turn_free = clear_due m h.clear
-
-  -- its cycles pass
-  module _ (silence : (i : ℕ) → t + i < end → script_byte first.script (t + i) ≡ None) (io : ClockedBoard) (within : bus.io.clock + n ≤ end)
-      (idle : IsIdle bus.io.clock n bus.io.board) (state : io.board ≡ timers_leap bus.io.clock n bus.io.board)
-      (lines : lines_of io.board ≡ lines_of bus.io.board) (clock : io.clock ≡ bus.io.clock + n) where
-    goes_past : IsSprinting t io.clock first (owing b (beside to on (on_io io)))
-    goes_past =
-        let at : ℕ = self.bus.io.clock in
-        let w : Machine = owing b (over to on bus count self) in
-        let same : bus.io.clock ≡ at = p.clock in
-        let there : io.clock ≡ at + n = clock ∙ ap (λ (u : ℕ). u + n) same in
-        let here : IsIdle at n bus.io.board = subst (λ (u : ℕ). IsIdle u n bus.io.board) same idle in
-        let next : io.board ≡ timers_leap at n bus.io.board = subst (λ (u : ℕ). io.board ≡ timers_leap u n bus.io.board) same state in
-        let from = h.runs.from in
-        let calm : IsCalm at n (shown w) = record {
-          ends = here.quiet;
-          none = λ i l. silent t at end first w (p.script ∙ h.runs.script) from silence i (omega (arith, l, within, same));
-        } in
-        subst (λ (u : ℕ). IsSprinting t u first (owing b (beside to on (on_io io)))) (sym there)
-        (goes t at first m h.runs n w turn_free p (with_io bus io) calm (λ i. let u : NodeState = record (shown w) { board = next i } in u) there)
-
-    pub turned : (owed : ℕ) → owed ≤ count + 1 → nat_lt count owed ≡ b → (nat_lt on.sreg.bits 128 ≡ false → (lines_of bus.io.board).bits ≡ 0) → IsTurning t end first (on_io io) to on owed
-    turned owed top is down = record {
-      within = omega (arith, within, clock);
-      off = h.off;
-      clear = λ up. ap (λ (l : Lines). l.bits) lines ∙ down up;
-      top = top;
-      runs = subst (λ (c : Bool). IsSprinting t io.clock first (owing c (beside to on (on_io io)))) (sym is) goes_past;
-    }
-
-    pub moved : self.bus.io.clock < io.clock
-    moved = let some = p.some in let same = p.clock in omega (arith, some, same, clock)
-
-  -- or are still to pass, on a board that is the same
-  module _ (io : ClockedBoard) (same : io ≡ bus.io) where
-    pub stays_at : io.clock ≡ self.bus.io.clock
-    stays_at = ap (λ (x : ClockedBoard). x.clock) same ∙ p.clock
-
-    pub may_end : end ≤ LAST_CYCLE → ((i : ℕ) → t + i < end → script_byte first.script (t + i) ≡ None) → MayEnd end n (on_io io)
-    may_end early none =
-        let at = stays_at in
-        let within = h.within in
-        let from = h.runs.from in
-        record {
-          some = p.some;
-          early = omega (arith, at, within, early);
-          within = omega (arith, at, within);
-          none = silent t io.clock end first (on_io io) h.runs.script (omega (arith, from, at)) none;
-        }
-
-    pub at_it : IsSprinting t io.clock first m
-    at_it = subst (λ (c : ℕ). IsSprinting t c first m) (sym stays_at) h.runs
-
-    pub carried : IsStepped io.clock n m (owing b (beside to on (on_io io)))
-    carried =
-        subst (λ (c : ℕ). IsStepped c n m (owing b (beside to on (on_io io)))) (sym stays_at)
-        (subst (λ (x : ClockedBoard). IsStepped self.bus.io.clock n m (owing b (beside to on (on_io x)))) (sym same) p)
-
--- ---- whether the flag I was turned on, by a byte in which it is as it was before, and by that behind
-module _ (flags before after : ℕ) (a b : Bool) (same : nat_lt flags 128 ≡ nat_lt before 128) (was : a ≡ nat_le 128 flags) (is : b ≡ nat_le 128 after) where
-  off_is : (n : ℕ) → nat_lt n 128 ≡ not (nat_le 128 n)
-  off_is n = grind (arith, nat_tests)
-
-  turned_by : turned_on before after ≡ (not a && b)
-  turned_by = (λ i. (sym same ∙ off_is flags ∙ ap not (sym was)) i && (sym is) i)
-
-  pub same_side : beq a b ≡ true → nat_lt flags 128 ≡ nat_lt after 128
-  same_side h = off_is flags ∙ ap not (sym was ∙ same_bits a b h ∙ is) ∙ sym (off_is after)
-
-  -- it is as it was: it was not
-  pub stepped_same : (t n : ℕ) (m x : Machine) → beq a b ≡ true → IsStepped t n m (owing (turned_on before after) x) → IsStepped t n m (owing false x)
-  stepped_same t n m x h = subst (λ (o : Bool). IsStepped t n m (owing o x)) (turned_by ∙ none a b h)
-    where
-      none : (a b : Bool) → beq a b ≡ true → (not a && b) ≡ false
-      none true b h = refl
-      none false true h = absurd (false≢true h)
-      none false false h = refl
-
-  -- it is another: it was where it was off
-  pub stepped_turned : (t n : ℕ) (m x : Machine) (r : Bool) → r ≡ nat_le 128 flags → beq a b ≡ false → IsStepped t n m (owing (turned_on before after) x) → IsStepped t n m (owing (not r) x)
-  stepped_turned t n m x r e h = subst (λ (o : Bool). IsStepped t n m (owing o x)) (turned_by ∙ where_off a b h ∙ ap not (was ∙ sym e))
-    where
-      where_off : (a b : Bool) → beq a b ≡ false → (not a && b) ≡ not a
-      where_off true b h = refl
-      where_off false true h = refl
-      where_off false false h = absurd (false≢true (sym h))
-
--- behind an instruction none is owed that was owed up to it
-pub not_owed : (n k : ℕ) → k ≤ n + 1 → nat_lt (n + 1) k ≡ false
-not_owed n k top = grind (arith, nat_tests, top)
-
-pub still_owed : (n : ℕ) → nat_lt n (n + 1) ≡ true
-still_owed n = grind (arith, nat_tests)
-
-pub none_owed : (n : ℕ) → nat_lt n 0 ≡ false
-none_owed n = grind (arith, nat_tests)

@@ -15,23 +15,11 @@ use Rattle.node_core.specs.State.{NodeState}
 use Rattle.node_core.specs.Execute.{executed}
 use Rattle.node_core.specs.Interrupts.{due, entry}
 use Rattle.node_core.specs.Cycle.{node_kind, acted_rows, asks_after, asks_in, begun_in, begun_rows, cpu_cycle, cpu_rows, device_rows, devices_cycle, entered_rows, entry_rows, instructed_rows, instruction_rows, is_refused, op_now, row, row_within, sends_after, sends_in, sent_rows, serial_rows}
-use Rattle.node_core.proofs.Radio.{apart, free_begun, free_finished, gap_begun, gap_finished, sends_free, sends_next}
-
-stays : (t : ℕ) (s : NodeState) → is_some s.stop ≡ true → begun_in t s ≡ s
-unfolding begun_in
-stays t s e = ap (λ (b : Bool). cond b s (devices_cycle t (cpu_cycle t s))) e
+use Rattle.node_core.proofs.Radio.{apart, free_begun, free_finished, gap_begun, gap_finished, sends_free, sends_next, stopped_asks, stopped_begun, stopped_sends}
 
 mute : (t : ℕ) (s : NodeState) → is_some s.stop ≡ true → begun_rows t s ≡ []
 unfolding begun_rows
 mute t s e = ap (λ (b : Bool). cond b [] (cpu_rows t s ++ device_rows t (cpu_cycle t s))) e
-
-deaf : (t : ℕ) (s : NodeState) → is_some s.stop ≡ true → asks_in t s ≡ false
-unfolding asks_in
-deaf t s e = ap (λ (b : Bool). cond b false (asks_after t (cpu_cycle t s))) e
-
-silent : (t : ℕ) (s : NodeState) → is_some s.stop ≡ true → sends_in t s ≡ None
-unfolding sends_in
-silent t s e = ap (λ (b : Bool). cond b None (sends_after t (cpu_cycle t s))) e
 
 -- a property of lists of rows that holds of none and of one of a cycle holds of a cycle's rows
 module _ (P : List Row → Type 0) (t : ℕ) (none : P []) (one : (r : Row) → r.cycle ≡ t → P (r ∷ [])) (both : (a b : List Row) → P a → P b → P (a ++ b)) where
@@ -93,10 +81,10 @@ bears_one t r e = All-cons (λ (x : Row). x.cycle ≡ t) r [] e (bears_none t)
 
 pub steady : IsSteady node_kind
 steady = record {
-  stays = stays;
+  stays = stopped_begun;
   mute = mute;
-  deaf = deaf;
-  silent = silent;
+  deaf = stopped_asks;
+  silent = stopped_sends;
   apart = apart;
   begun_rows = λ t s. begun_is (Bears t) t (bears_none t) (bears_one t) (All-append (λ (x : Row). x.cycle ≡ t)) s;
   finished_rows = λ t s h. bears_one t _ refl;

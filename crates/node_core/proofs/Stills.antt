@@ -13,6 +13,7 @@ use Rattle.board_io.specs.Board.{clocked}
 use Rattle.board_io.specs.Lagging.{ReadsStill}
 use Rattle.board_io.proofs.Leaps.{leap_zero}
 use Rattle.avr_core.specs.FlowShapes.{at_pc, bit_is, branched, ends, relative, skipped, skips_by_io}
+use Rattle.avr_core.specs.Execute.{is_sleep}
 use Rattle.avr_core.specs.FlowTable.{flow_effect}
 use Rattle.avr_core.specs.MemoryShapes.{loads}
 use Rattle.avr_core.specs.MemoryShapes as memory
@@ -23,7 +24,7 @@ use Rattle.data_space.specs.Core.{advanced, with_reg}
 use Rattle.data_space.specs.Space.{Access, answered, answers, loaded}
 use Rattle.data_space.specs.Sequence.{Outcome, done, then_do}
 use Rattle.node_core.specs.declared.bus.NodeBus.{NodeBus}
-use Rattle.node_core.specs.Bus.{board_got, bus_get, with_io}
+use Rattle.node_core.specs.Bus.{board_got, bus_get, bus_put, with_io}
 use Rattle.node_core.specs.Execute.{executed}
 use Rattle.node_core.specs.Pace.Leaps.{IsLoad, IsStill, LoadsStill, bus_later, is_steering}
 use Rattle.avr_core.proofs.Executes.{arith_awake, is_arith}
@@ -85,38 +86,24 @@ arith_still o bus is = record {
   does = λ flash cpu u t n. sym (by_class class.Arith flash o cpu (bus_later u t n bus) is);
 }
 
+-- of the flow, by the core that it reaches, whatever the data space
+flows : (o : Op) (bus : NodeBus) → class_of o ≡ class.Flow → is_sleep o ≡ false → (reached : List ℕ → Cpu → Done × Cpu)
+    → ((flash : List ℕ) (cpu : Cpu) (b : NodeBus) → flow_effect bus_get bus_put flash o cpu b ≡ (let a : Outcome NodeBus = record { result = Ok (reached flash cpu).0; cpu = (reached flash cpu).1; bus = b } in a))
+    → IsStill o bus
+flows o bus is awake reached gives = record {
+  wakes = awake;
+  reached = reached;
+  does = λ flash cpu u t n. sym (by_class class.Flow flash o cpu (bus_later u t n bus) is) ∙ gives flash cpu (bus_later u t n bus);
+}
+
 pub steers_still : (o : Op) (bus : NodeBus) → is_steering o ≡ true → IsStill o bus
 unfolding flow_effect
-steers_still (op.Rjmp k) bus e = record {
-  wakes = refl;
-  reached = λ flash cpu. (done 2, at_pc (relative k cpu) cpu);
-  does = λ flash cpu u t n. sym (by_class class.Flow flash (op.Rjmp k) cpu (bus_later u t n bus) refl);
-}
-steers_still (op.Brbs s k) bus e = record {
-  wakes = refl;
-  reached = λ flash cpu. branched (bit_is true (s % 8) cpu.sreg.bits) k cpu;
-  does = λ flash cpu u t n. sym (by_class class.Flow flash (op.Brbs s k) cpu (bus_later u t n bus) refl);
-}
-steers_still (op.Brbc s k) bus e = record {
-  wakes = refl;
-  reached = λ flash cpu. branched (bit_is false (s % 8) cpu.sreg.bits) k cpu;
-  does = λ flash cpu u t n. sym (by_class class.Flow flash (op.Brbc s k) cpu (bus_later u t n bus) refl);
-}
-steers_still (op.Cpse d r) bus e = record {
-  wakes = refl;
-  reached = λ flash cpu. skipped flash (slice_index cpu.r d == slice_index cpu.r r) cpu;
-  does = λ flash cpu u t n. sym (by_class class.Flow flash (op.Cpse d r) cpu (bus_later u t n bus) refl);
-}
-steers_still (op.Sbrs r b) bus e = record {
-  wakes = refl;
-  reached = λ flash cpu. skipped flash (bit_is true (b % 8) (slice_index cpu.r r)) cpu;
-  does = λ flash cpu u t n. sym (by_class class.Flow flash (op.Sbrs r b) cpu (bus_later u t n bus) refl);
-}
-steers_still (op.Sbrc r b) bus e = record {
-  wakes = refl;
-  reached = λ flash cpu. skipped flash (bit_is false (b % 8) (slice_index cpu.r r)) cpu;
-  does = λ flash cpu u t n. sym (by_class class.Flow flash (op.Sbrc r b) cpu (bus_later u t n bus) refl);
-}
+steers_still (op.Rjmp k) bus e = flows (op.Rjmp k) bus refl refl (λ flash cpu. (done 2, at_pc (relative k cpu) cpu)) (λ flash cpu b. refl)
+steers_still (op.Brbs s k) bus e = flows (op.Brbs s k) bus refl refl (λ flash cpu. branched (bit_is true (s % 8) cpu.sreg.bits) k cpu) (λ flash cpu b. refl)
+steers_still (op.Brbc s k) bus e = flows (op.Brbc s k) bus refl refl (λ flash cpu. branched (bit_is false (s % 8) cpu.sreg.bits) k cpu) (λ flash cpu b. refl)
+steers_still (op.Cpse d r) bus e = flows (op.Cpse d r) bus refl refl (λ flash cpu. skipped flash (slice_index cpu.r d == slice_index cpu.r r) cpu) (λ flash cpu b. refl)
+steers_still (op.Sbrs r b) bus e = flows (op.Sbrs r b) bus refl refl (λ flash cpu. skipped flash (bit_is true (b % 8) (slice_index cpu.r r)) cpu) (λ flash cpu b. refl)
+steers_still (op.Sbrc r b) bus e = flows (op.Sbrc r b) bus refl refl (λ flash cpu. skipped flash (bit_is false (b % 8) (slice_index cpu.r r)) cpu) (λ flash cpu b. refl)
 steers_still _ bus e = absurd (false≢true e)
 
 pub load_still : (o : Op) (bus : NodeBus) (at : ℕ) → IsLoad o at → LoadsStill bus at → IsStill o bus
