@@ -74,6 +74,7 @@ whole_names() {
 # Programs, libraries and modules are looked for where the environment says so by whole names, and never in a folder that is
 # checked.
 PATH=$(whole_names "$PATH")
+PATH=${PATH:-/usr/bin:/bin}
 LD_LIBRARY_PATH=$(whole_names "${LD_LIBRARY_PATH-}")
 PYTHONPATH=$(whole_names "${PYTHONPATH-}")
 export PATH LD_LIBRARY_PATH PYTHONPATH
