@@ -64,7 +64,7 @@ SYSTEM = [
     "/proc/self/pagemap",
     "/proc/kmsg",
     "/sys/kernel/debug/tracing/trace_pipe",
-    "/".join(["n" * 200] * 30),
+    "/".join(["n" * 200] * 20),
 ]
 
 # Programs and modules that a careless tool would run from the folder in which it stands.
