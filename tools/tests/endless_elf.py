@@ -1,5 +1,5 @@
-"""ELF files of some bytes that a reader takes hours or gigabytes for: tables without an end, numbers of a million digits, a
-million entries of nothing, names of a megabyte."""
+"""ELF files that a reader takes hours or gigabytes for: tables without an end, numbers of a million digits, a million
+entries of nothing, names of a megabyte."""
 import struct
 import zlib
 
@@ -29,7 +29,8 @@ def unsigned(number):
 
 
 def elf(sections, head_bytes=SECTION, count=None, said_sections=0, segments=0):
-    """A file of these sections: the name, kind, flags, content, the section it is linked with, and the bytes of an entry."""
+    """A file of these sections: name, kind, flags, content, the section it is linked with, and the bytes of an
+    entry."""
     names = b"\0"
     body, heads = bytearray(52), bytearray(struct.pack("<10I", 0, 0, 0, 0, 0, said_sections, 0, said_sections, 1, 0))
     for name, kind, flags, content, link, entry in [*sections, (".shstrtab", STRINGS, 0, None, 0, 0)]:

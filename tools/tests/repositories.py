@@ -55,7 +55,7 @@ NAMES = [
     "N",
 ]
 
-# Places that are files by their kind, and are no file's: the system makes what is read there, waits for it, or has none.
+# Files by their kind that the system makes as they are read, waits for, or does not have.
 SYSTEM = [
     "/dev/stdin",
     "/proc/self/environ",
