@@ -115,7 +115,7 @@ LONG_TEXT = b"x" * (8 * MEGABYTE) + b"\0"
 
 MAKERS = {
     "sections of no bytes": lambda: elf([], head_bytes=0, count=0, said_sections=0xFFFF_FFFF),
-    "segments of no bytes": lambda: elf([], count=0, said_sections=0xFFFF_FFFF, segments=0xFFFF),
+    "segments of no bytes": lambda: elf([], said_sections=0xFFFF_FFFF, segments=0xFFFF),
     "symbols that lie in one another": lambda: symbols(900_000, 1, b"\0"),
     "symbols of long names": lambda: symbols(100_000, 16, LONG_TEXT),
     "rows of lines": lambda: dwarf(lines=line_program(b"\x14" * (15 * MEGABYTE))),

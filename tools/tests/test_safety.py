@@ -56,6 +56,16 @@ def test_the_launchers(place, path, modules):
     assert status == 0 and said.startswith("no fault in the scenario"), said
 
 
+def test_an_environment_of_the_folder(place):
+    """What activates one gives its whole name."""
+    (place / "bin").mkdir()
+    shutil.copy(place / "python3", place / "bin")
+    environment = {name: value for name, value in os.environ.items() if name != "PYTHON"} | {"VIRTUAL_ENV": "."}
+    words = [f"{TOP}/avrora-tools", "why", "relay.toml"]
+    done = subprocess.run(words, cwd=place, env=environment, capture_output=True, text=True, timeout=LONG, check=False)
+    assert (done.returncode, done.stderr) == (0, "")
+
+
 @pytest.mark.parametrize("path", PATHS)
 def test_the_launcher_of_a_release(place, path):
     home = place.parent / "release"
