@@ -276,7 +276,7 @@ class Run(Folder):
 
     def setUp(self):
         super().setUp()
-        self.top = self.place / "repository"
+        self.top = self.stands = self.place / "repository"
         for path in (
             ".ci/run",
             "scripts/before_gate.py",
@@ -314,7 +314,7 @@ class Run(Folder):
         kept = {key: value for key, value in os.environ.items() if key not in ("PYTHON", "AVRORA_PROGRAM", "AVRORA")}
         (self.top / "ran").unlink(missing_ok=True)
         done = subprocess.run(
-            [str(self.top / ".ci/run"), *words], cwd=self.top, env={**kept, "PYTHON": sys.executable, "CI": "true", **environment},
+            [str(self.top / ".ci/run"), *words], cwd=self.stands, env={**kept, "PYTHON": sys.executable, "CI": "true", **environment},
             stdin=subprocess.DEVNULL, capture_output=True, text=True, timeout=LONG, check=False,
         )  # fmt: skip
         ran = self.top / "ran"
@@ -327,6 +327,17 @@ class Run(Folder):
 
     def test_a_plain_gate_is_its_last_command(self):
         self.assertIn("rt ci", (TOP / ".ci/run").read_text(encoding="utf-8").splitlines())
+
+    def test_where_one_stands(self):
+        """It may be a stranger's repository: the gate is that of the one in which the script lies."""
+        self.stands = self.place / "other"
+        self.stands.mkdir()
+        subprocess.run(["git", "init", "-q"], cwd=self.stands, check=True)
+        for name in ("before_gate.py", "gating/last_lines.py"):
+            fake_kit.write(self.stands / f"scripts/{name}", "open('strange', 'w').close()\n")
+        status, _, err, ran = self.run_all()
+        self.assertEqual((status, bool(ran)), (0, True), err)
+        self.assertEqual(sorted(it.name for it in self.stands.iterdir()), [".git", "scripts"])
 
     def test_the_last_lines(self):
         status, lines, err, ran = self.run_all()

@@ -11,7 +11,7 @@
 #   mkdir mine && cp relay.c relay.toml relay.expect mine && ci/check.sh mine
 #
 # FOLDER may be anybody's: nothing of it is run, and nothing is written but in OUT. Links, pipes and devices are left out, and
-# so is .git. OUT must be new, empty, or of an earlier call, which is removed. SECURITY.md says what a compiler may still read.
+# so is .git. Its files may have a gibibyte in all. OUT must be new, empty, or of an earlier call, which is removed. SECURITY.md says what a compiler may still read.
 #
 # AVRORA_HOME names the unpacked archive, where this script does not lie in it. Without one avrora-tools is looked for on the
 # PATH, where the package puts it. From Debian: gcc-avr, avr-libc, python3, python3-junit.xml; for pages python3-pyelftools.
@@ -74,10 +74,14 @@ whole_names() {
 # Programs, libraries and modules are looked for where the environment says so by whole names, and never in a folder that is
 # checked.
 PATH=$(whole_names "$PATH")
+PATH=${PATH:-/usr/bin:/bin}
 LD_LIBRARY_PATH=$(whole_names "${LD_LIBRARY_PATH-}")
 PYTHONPATH=$(whole_names "${PYTHONPATH-}")
 export PATH LD_LIBRARY_PATH PYTHONPATH
 unset COMPILER_PATH GCC_EXEC_PREFIX
+
+# Bytes of all files of FOLDER.
+most=1073741824
 
 seconds=600
 if [ "${1-}" = --timeout ]; then
@@ -94,7 +98,7 @@ home=$(cd -- "$(absolute "${AVRORA_HOME:-$here/../..}")" && pwd)
 if [ -x "$home/avrora-tools" ]; then
     PATH=$home:$PATH
 fi
-for it in avr-gcc avr-objcopy avrora-tools timeout sha256sum tar find; do
+for it in avr-gcc avr-objcopy avrora-tools timeout sha256sum tar find awk; do
     command -v "$it" >/dev/null || end 3 "there is no $it"
 done
 if [ -f "$home/SHA256SUMS" ]; then
@@ -135,6 +139,9 @@ fi
 cd -- "$folder"
 left=$(find . -name .git -prune -o ! -type f ! -type d -printf x | wc -c)
 [ "$left" -eq 0 ] || say "left out: $left links, pipes or devices"
+# A file of terabytes may have no block on the disk; its copy would fill ours.
+find . -name .git -prune -o -type f -printf '%s\n' | awk -v most="$most" '{ sum += $1 } END { exit sum > most }' ||
+    end 2 "$1 has more than $most bytes"
 find . -mindepth 1 \( -name .git -o -path ./.check.sh \) -prune -o \( -type f -o -type d \) -print0 |
     tar --create --null --no-recursion --hard-dereference --mode=u=rwX,go=rX --files-from=- |
     tar --extract --no-same-owner --directory="$out"

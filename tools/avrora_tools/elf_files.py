@@ -4,14 +4,18 @@ import io
 from collections.abc import Iterator
 from typing import Any
 
-from avrora_tools import files
-from avrora_tools.errors import BadInput
+from avrora_tools import deadlines, files
+from avrora_tools.errors import BadInput, ToolError
 from avrora_tools.terminal import missing
 
 # More bytes than the debugging sections of a program have, once they are unpacked; and how many times as many as it has
 # a section may unpack to, where its head does not say.
 LARGEST_DEBUG = 4 * files.LARGEST_TEXT
 MOST_UNPACKED = 1_032
+
+# What no program takes to be read: seconds of a processor, and bytes of memory. A few bytes may say that a table has no
+# end, that a number has a million digits, or that each of a million entries has a name of a million characters.
+SECONDS, MEMORY = 60, 2 << 30
 
 # Entries of DWARF that an entry refers to; pyelftools follows these anywhere, also round and round.
 SIBLING = "DW_AT_sibling"
@@ -26,11 +30,16 @@ def opened(path: str) -> Iterator[Any]:
         raise missing("pyelftools", "python3-pyelftools") from None
     content = files.read_bytes(path)
     try:
-        elf = ELFFile(io.BytesIO(content))
-        refuse_endless(elf)
-        yield elf
-    except BadInput:
+        with deadlines.in_bounds(SECONDS, MEMORY):
+            elf = ELFFile(io.BytesIO(content))
+            refuse_endless(elf)
+            yield elf
+    except ToolError:
         raise
+    except deadlines.Late:
+        raise BadInput(f"{files.shown(path)}: no ELF file: reading it takes more than {SECONDS} seconds") from None
+    except MemoryError:
+        raise BadInput(f"{files.shown(path)}: no ELF file: reading it takes more than {MEMORY:,} bytes") from None
     except Exception as fault:  # whatever a broken file leads the library to
         why = files.printable(str(fault)) or type(fault).__name__
         raise BadInput(f"{files.shown(path)}: no ELF file: {why}") from None

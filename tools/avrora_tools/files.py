@@ -23,6 +23,10 @@ __all__ = [
 LARGEST_TEXT = 16 * 1024 * 1024
 
 ENDLESS = "a device or a pipe, and no file"
+OF_THE_SYSTEM = "the system makes what is read there, and it is no file"
+
+# Where files are by their kind that the system makes as they are read: without an end, with secrets, or after a wait.
+FOLDERS_OF_THE_SYSTEM = ("/proc/", "/sys/")
 
 # What keeps a tool from a file that may be as good as any.
 NOT_OF_THE_FILE = (errno.EACCES, errno.EPERM, errno.EIO, errno.ENOMEM, errno.EMFILE, errno.ENFILE, errno.ESTALE)
@@ -55,10 +59,11 @@ def opened(name: str) -> Iterator[BinaryIO]:
 @contextlib.contextmanager
 def opened_named(name: str) -> Iterator[BinaryIO]:
     """A file that another file names, and not the user, as `opened` has it. Raises BadInput also where it is a device
-    or a pipe, which may have no end; it is not waited for."""
+    or a pipe, or one that the system makes, which may have no end; it is not waited for."""
     with readable(name):
         file: BinaryIO = open(name, "rb", opener=without_waiting)
     with file:
+        refuse_made(name, f"/proc/self/fd/{file.fileno()}")
         if not stat.S_ISREG(os.fstat(file.fileno()).st_mode):
             raise BadInput(f"cannot read {shown(name)}: {ENDLESS}")
         if not name.endswith(".gz"):
@@ -92,8 +97,16 @@ def untold(path: str, folder: str) -> Iterator[None]:
         raise BadInput(f"{place[0]}: not what it should be; {where}") from None
 
 
+def refuse_made(name: str, path: str) -> None:
+    """Raises BadInput where the system makes what is read from the file `name`, which is at `path`."""
+    if os.path.realpath(path).startswith(FOLDERS_OF_THE_SYSTEM):
+        raise BadInput(f"cannot read {shown(name)}: {OF_THE_SYSTEM}")
+
+
 def refuse_endless(name: str) -> None:
-    """Raises BadInput where a file that another file names is a device or a pipe."""
+    """Raises BadInput where a file that another file names is a device or a pipe, or one that the system makes."""
+    if os.path.isfile(name):
+        refuse_made(name, name)
     if os.path.exists(name) and not os.path.isfile(name) and not os.path.isdir(name):
         raise BadInput(f"cannot read {shown(name)}: {ENDLESS}")
 

@@ -19,8 +19,10 @@ SUM_BYTES, SEAL_BYTES = 8, 16
 
 
 def folder_of_state() -> str:
-    """Where this user's tools keep what belongs to no project."""
-    base = os.environ.get("XDG_STATE_HOME") or os.path.expanduser("~/.local/state")
+    """Where this user's tools keep what belongs to no project. A name from where one stands counts for nothing: a
+    stranger's folder may have a key there, by which its results would be believed."""
+    named = os.environ.get("XDG_STATE_HOME", "")
+    base = named if os.path.isabs(named) else os.path.expanduser("~/.local/state")
     return os.path.join(base, "avrora-tools")
 
 
@@ -29,6 +31,8 @@ def key() -> bytes:
     """The key of this user, which is made where there is none."""
     path = folder_of_state()
     made = secrets.token_bytes(KEY_BYTES)
+    if not os.path.isabs(path):  # as HOME is none
+        return made
     with contextlib.suppress(OSError):
         os.makedirs(path, 0o700, exist_ok=True)
         with Folder(os.open(path, os.O_PATH | os.O_DIRECTORY | os.O_CLOEXEC), path) as folder:

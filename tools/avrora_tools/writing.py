@@ -150,7 +150,8 @@ class Folder:
             raise IsADirectoryError(errno.EISDIR, os.strerror(errno.EISDIR), path)
         if found and not stat.S_ISREG(found.st_mode):
             raise BadInput(f"{shown(path)}: no file")
-        beside = f".{name[:60]}.{secrets.token_hex(8)}"
+        # of at most 255 bytes, whatever the characters
+        beside = f".{name[:55]}.{secrets.token_hex(8)}"
         with renamed(path):
             written = os.open(beside, os.O_RDWR | os.O_CREAT | os.O_EXCL | NO_LINK, 0o666, dir_fd=self.descriptor)
         try:

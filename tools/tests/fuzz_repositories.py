@@ -23,7 +23,7 @@ TESTS = os.path.dirname(os.path.realpath(__file__))
 sys.path[:0] = [os.path.dirname(TESTS), TESTS]
 
 import repositories  # noqa: E402
-from avrora_tools import main, runs, writing  # noqa: E402
+from avrora_tools import elf_files, main, runs, writing  # noqa: E402
 
 COUNT, SEED, FIRST = 10_000, 1, 0
 PROGRAM = os.environ.get("AVRORA_PROGRAM")
@@ -50,6 +50,8 @@ print(f"{{latency}} 0 sent AA\\n{{latency + 9}} 1 heard 1 AA 0\\n5000 0 end 10 r
 SECONDS = 300  # that no call takes, on a busy machine
 
 ROUNDS = 1  # of each hunt
+
+ELF_SECONDS, ELF_MEMORY = 2, 1 << 28  # of a file that is never read to its end
 
 WRITTEN = ("out", "out.html", "out.svg", "out.xml", "out.info", "junit.xml")  # pages and the like
 
@@ -198,6 +200,7 @@ def be(world, folder, words, out, errors):
             AVRORA=PROGRAM if world.asks_program else f"{world.place}/avrora",
             AVRORA_PROGRAM=PROGRAM if world.asks_program else f"{world.place}/avrora",
             PATH=f".:{os.environ['PATH']}",
+            MY_TOKEN=repositories.TOKEN,  # as /proc/self/environ has it
         )
         tempfile.tempdir = None
         main.main(words)
@@ -228,7 +231,7 @@ def faults(world, words, status, out, errors):
         yield "it told a secret"
     for name in WRITTEN:
         path = f"{world.repo}/{name}"
-        if os.path.isfile(path) and not os.path.islink(path) and os.stat(path).st_nlink == 1:
+        if os.path.isfile(path) and not os.path.islink(path) and is_small(os.stat(path)):
             if repositories.TOKEN.encode() in pathlib.Path(path).read_bytes():
                 yield f"it wrote a secret to {name}"
     rounds = re.search(r"(\d+) rounds of seed", text)
@@ -239,6 +242,11 @@ def faults(world, words, status, out, errors):
             yield f"it showed {[line for line in text.splitlines() if not line.isprintable()][:2]!r}"
     if words[0] == "campaign" and not {"--list", "--scenario"} & set(words) and status == 0:
         yield f"all is passed, and nothing is: {out[-200:]!r}"
+
+
+def is_small(told):
+    """Whether a file is nobody else's, and no hole of terabytes."""
+    return told.st_nlink == 1 and told.st_size < repositories.HOLE
 
 
 def looked_at(seed, number, tell):
@@ -280,6 +288,7 @@ def run(count=COUNT, seed=SEED, first=FIRST, tell=print):
         main.command(name)  # what they import is imported once
     sys.path[:] = [path for path in sys.path if path]  # of the folder in which a tool is called nothing is imported
     writing.READER_SECONDS = 0.5
+    elf_files.SECONDS, elf_files.MEMORY = ELF_SECONDS, ELF_MEMORY
     return sum(looked_at(seed, number, tell) for number in range(first, count))
 
 

@@ -12,6 +12,11 @@ import sys
 TESTS = os.path.dirname(os.path.realpath(__file__))
 DATA = f"{TESTS}/data"
 
+if TESTS not in sys.path:
+    sys.path.insert(0, TESTS)
+
+import endless_elf  # noqa: E402
+
 TOKEN = "hunter2"  # of each secret; no tool tells it
 
 # Names that mean something to a terminal, a log, a shell, XML, HTML, a dump, a file system.
@@ -45,6 +50,21 @@ NAMES = [
     "n" * 200,
     "ä",
     "\u200b",
+    "n" * 250,
+    "\U0001f600" * 60,
+    "N",
+]
+
+# Files by their kind that the system makes as they are read, waits for, or does not have.
+SYSTEM = [
+    "/dev/stdin",
+    "/proc/self/environ",
+    "/proc/self/fd/0",
+    "/proc/self/mem",
+    "/proc/self/pagemap",
+    "/proc/kmsg",
+    "/sys/kernel/debug/tracing/trace_pipe",
+    "/".join(["n" * 200] * 20),
 ]
 
 # Programs and modules that a careless tool would run from the folder in which it stands.
@@ -60,7 +80,19 @@ SPIES = [
     "sitecustomize.py",
     "conftest.py",
     "avrora_tools.py",
+    "hashlib.py",
+    "elftools.py",
+    "rt",
+    "git",
+    "avr-gdb",
+    "bash",
+    "realpath",
+    ".gdbinit",
 ]
+
+HOLE = 1 << 42  # bytes of a file that has no block on the disk
+FUTURE = 1 << 33  # a second after the year 2200
+DEPTH = 20_000  # of what stands in one another
 
 HOME = {
     ".bashrc": "# mine\n",
@@ -120,7 +152,7 @@ class World:
             f"{self.home}/{self.draw.choice(names)}",
             f"{self.upwards()}home/{self.draw.choice(names)}",
             "/dev/zero",
-            "/dev/stdin",
+            self.draw.choice(SYSTEM),
             "loop",
             ".",
         ]
@@ -144,7 +176,7 @@ class World:
             return
         os.makedirs(os.path.dirname(path), exist_ok=True)
         kind = self.draw.choice(
-            ["link", "link", "link", "hard", "pipe", "folder", "garbage", "device", "mode", "empty"]
+            ["link", "link", "link", "hard", "pipe", "folder", "garbage", "device", "mode", "empty", "hole", "future"]
         )
         if kind == "link":
             os.symlink(self.targets(), path)
@@ -158,6 +190,12 @@ class World:
             os.makedirs(f"{path}/{self.draw.choice(['a', 'runs', 'results.sqlite'])}")
         elif kind == "device" and os.geteuid() == 0:
             os.mknod(path, 0o666 | stat.S_IFCHR, os.makedev(1, 5))  # /dev/zero
+        elif kind == "hole":
+            self.write(path, b"")
+            os.truncate(path, HOLE)
+        elif kind == "future":
+            self.write(path, self.draw.randbytes(100))
+            os.utime(path, (FUTURE, FUTURE))
         else:
             content = b"" if kind == "empty" else self.draw.randbytes(self.draw.choice([1, 100, 5000]))
             self.write(path, content, self.draw.choice([0o644, 0o4777, 0o000, 0o755]) if kind == "mode" else 0o644)
@@ -175,8 +213,10 @@ class World:
             if draw.random() < 0.3:
                 shell = "" if name.endswith(".py") else f"#!{sys.executable} -IS\n"
                 self.write(f"{self.repo}/{name}", f"{shell}open({self.ran!r} + '/{name}', 'w').close()\n", 0o755)
-        image = f"{self.name()}.hex"
-        if draw.random() < 0.9:
+        image = f"{self.name()}.hex" if draw.random() < 0.95 else draw.choice(SYSTEM)
+        if image in SYSTEM:
+            pass
+        elif draw.random() < 0.9:
             self.write(f"{self.repo}/{image}", ":00000001FF\n")
         else:
             self.odd(image)
@@ -196,6 +236,7 @@ class World:
     def scenario(self, image):
         draw = self.draw
         key = quoted(self.name()) + " = 1\n" if draw.random() < 0.1 else ""
+        key = f"{draw.choice(strange_values())}\n" if draw.random() < 0.1 else key
         version = "" if draw.random() < 0.1 else "version = 3\n"
         return (
             f"{version}cycles = 5_000\nlatency = 20\n{key}"
@@ -216,6 +257,7 @@ class World:
                 "deep/golden.rows",
                 "/dev/zero",
                 *HIDDEN,
+                *SYSTEM,
             ]
         )
         source = draw.choice(
@@ -247,6 +289,9 @@ class World:
                 f"{self.name()}",
                 '"' + '\\"' * 50_000,
                 "it's # 1",
+                f"count == {'9' * DEPTH}: * 0 sent *",
+                f"text 0 matches '{'(' * DEPTH}{')' * DEPTH}'",
+                f"never * 0 sent {'{' * DEPTH}",
             ],
             2,
         )
@@ -285,7 +330,8 @@ class World:
                 if draw.random() < 0.3:
                     self.odd(f"{folder}/{name}")
             if not os.path.lexists(f"{self.repo}/{folder}/hunt.json"):
-                self.write(f"{self.repo}/{folder}/hunt.json", json.dumps(corpus))
+                text = json.dumps(corpus) if draw.random() < 0.8 else draw.choice(strange_documents())
+                self.write(f"{self.repo}/{folder}/hunt.json", text)
         if draw.random() < 0.5:
             self.odd("sweep.log")
         else:
@@ -293,11 +339,17 @@ class World:
             self.write(f"{self.repo}/sweep.log", "".join(draw.sample(lines, 2)))
         places = ["relay.toml", "relay.toml", "early.toml", f"{self.home}/.netrc", "../home/work", "/dev/zero"]
         conditions = ["always 0 head < 9", "reaches 0 ring[0] == 114", "never 0 SP == 0", f"always 0 {self.name()}"]
+        conditions += [f"always 0 {'(' * DEPTH}head{')' * DEPTH} < 9", f"always 0 {'!' * DEPTH}head"]
+        conditions += [f"always 0 head{' << 63' * DEPTH} < 9", f"never 0 ring[{'9' * DEPTH}] == 0"]
         elf = draw.choice(["relay.elf", "out", "../home/.netrc"])
         self.write(f"{self.repo}/r.expect", f"run {draw.choice(places)}\nelf {elf}\n{draw.choice(conditions)}\n")
 
     def elf(self):
-        """A program whose names are changed."""
+        """A program whose names are changed, or one that nobody reads to its end."""
+        if self.draw.random() < 0.2:
+            made = endless_elf.MAKERS[self.draw.choice(sorted(endless_elf.MAKERS))]
+            self.write(f"{self.repo}/relay.elf", made())
+            return
         with open(f"{DATA}/relay.elf", "rb") as file:
             content = bytearray(file.read())
         for old in (b"transfer\0", b"relay.c\0", b"main\0", b"ring\0", b"head\0", b"tail\0", b"put\0"):
@@ -469,6 +521,36 @@ class World:
             + bytes.fromhex(SUPER)
         )
         self.write(path, head.ljust(512, b"\0") + (end if self.draw.random() < 0.8 else b""))
+
+
+def strange_values():
+    """Lines of TOML that a reader may take long for, or get lost in."""
+    tables = "{a = " * DEPTH
+    return [
+        f"a = {'[' * DEPTH}{']' * DEPTH}",
+        f"a = {tables}1{'}' * DEPTH}",
+        f"a = {'9' * DEPTH}",
+        f"a = 0x{'F' * DEPTH}",
+        f"a = 1{'0' * DEPTH}.0e-{DEPTH}",
+        f"a = 1e{'9' * DEPTH}",
+        f"{'a.' * DEPTH}a = 1",
+        f"a = 9999-99-99T99:99:99.{'9' * DEPTH}",
+        "include = '/proc/self/environ'",
+        "Cycles = 1",
+    ]
+
+
+def strange_documents():
+    """Texts of JSON of that kind."""
+    objects = '{"version":' * DEPTH
+    return [
+        "[" * DEPTH + "]" * DEPTH,
+        f"{objects}1{'}' * DEPTH}",
+        f'{{"version": {"9" * DEPTH}, "seed": 1, "rounds": 1, "failed": []}}',
+        '{"version": 1, "seed": NaN, "rounds": Infinity, "failed": []}',
+        '{"version": 1, "seed": 1, "rounds": 1e999, "failed": -0.0}',
+        '{"version": 1, "seed": "\\ud800", "rounds": "\\udfff", "failed": [null]}',
+    ]
 
 
 def quoted(text):

@@ -12,7 +12,7 @@ import pytest
 
 from campaign_runs import CAMPAIGN, folder, hear_interrupts, run_campaign, starts
 from support import DATA, LONG, TOOL, run_tool, scratch, wait_for
-from avrora_tools import budgets, campaigns, stored, variants
+from avrora_tools import budgets, campaigns, seals, stored, variants
 from avrora_tools.errors import BadInput
 
 GOOD = CAMPAIGN.replace("[1, 3, 4, 20, 30]", "[30, 31, 32]")
@@ -241,3 +241,19 @@ def test_names_of_files_and_keys_begin_no_line():
         with pytest.raises(BadInput) as refused:
             budgets.table_of(table + more, "currents")
         assert "\n" not in str(refused.value)
+
+
+def test_a_key_that_a_stranger_made(tmp_path, monkeypatch):
+    """A folder of state by a name from where one stands is not the user's: a repository may have one."""
+    key = b"k" * seals.KEY_BYTES
+    for folder in ("state", ".local/state"):
+        (tmp_path / folder / "avrora-tools").mkdir(parents=True)
+        (tmp_path / folder / "avrora-tools" / seals.KEY_FILE).write_bytes(key)
+    (tmp_path / "home").mkdir()
+    monkeypatch.chdir(tmp_path)
+    for state, home in (("state", f"{tmp_path}/home"), ("", "."), (".local/state", ".")):
+        monkeypatch.setenv("XDG_STATE_HOME", state)
+        monkeypatch.setenv("HOME", home)
+        seals.key.cache_clear()
+        assert seals.key() != key
+    seals.key.cache_clear()

@@ -37,7 +37,7 @@ def place(tmp_path):
 def check(place, *words, **environment):
     """Runs the script on the folder `mine`; its status, output and errors."""
     done = subprocess.run(
-        ["sh", SCRIPT, *(words or ["mine", "out"])],
+        ["/bin/sh", SCRIPT, *(words or ["mine", "out"])],
         cwd=place,
         env={**os.environ, "AVRORA_HOME": TOP, "RAN": f"{place}/ran", **environment},
         stdin=subprocess.DEVNULL,
@@ -190,6 +190,22 @@ def test_modules_and_parts_of_the_compiler_are_not_those_of_the_folder(place):
         variables = dict.fromkeys(("PYTHONPATH", "COMPILER_PATH", "LD_LIBRARY_PATH"), value)
         assert check(place, **variables)[0] == 0
         assert not (place / "ran").exists(), value
+
+
+def test_a_file_of_terabytes_without_a_block(place):
+    """Its copy would have blocks, and fill the disk."""
+    (place / "mine" / "hole").touch()
+    os.truncate(place / "mine" / "hole", 1 << 42)
+    status, out, err = check(place)
+    assert (status, out) == (2, "") and err == "check.sh: mine has more than 1073741824 bytes\n"
+    assert os.listdir(place / "out") == [".check.sh"]
+
+
+def test_a_path_of_relative_parts_alone(place):
+    """What is left of it is empty, and that is the folder too."""
+    for name in ("avr-gcc", "tar", "find", "dirname", "cat"):
+        write_spy(place / name)
+    check(place, PATH=".:")
 
 
 def test_precompiled_headers(place):

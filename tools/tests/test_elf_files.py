@@ -1,14 +1,17 @@
 """ELF files that a stranger made: they are read to an end, in bounded time and memory, or refused by name."""
 import io
 import pathlib
+import resource
 import shutil
+import signal
 import subprocess
 import sys
 
 import pytest
 
+import endless_elf
 from strange_dwarf import Entry, array, base, program, structure
-from support import scratch
+from support import LONG, scratch
 from avrora_tools import elf_files, programs, variables
 from avrora_tools.errors import BadInput
 
@@ -218,3 +221,38 @@ def test_types_that_fit_nowhere(tmp_path):
 def test_a_variable_that_ends_behind_the_data_space(tmp_path):
     content = pathlib.Path(program(f"{tmp_path}/a.elf", base(4, FLOAT, "float"), address=0x10FE)).read_bytes()
     assert read(content) == ("v float 00 00\n", "")
+
+
+READ_IN_BOUNDS = """import sys, time
+from avrora_tools import elf_files, programs, stacks, variables
+from avrora_tools.errors import BadInput
+from avrora_tools.sweeping import sharing
+elf_files.SECONDS, elf_files.MEMORY = 1, 1 << 28
+for read in (programs.Program, variables.variables_of, stacks.frame_rules, stacks.data_end, sharing.objects_of):
+    try:
+        read(sys.argv[1])
+    except BadInput as fault:
+        print(str(fault).rpartition(": ")[2])
+print(time.process_time() < 30)
+"""
+
+
+@pytest.mark.parametrize("name", endless_elf.MAKERS)
+def test_a_file_that_nobody_reads_to_its_end(name):
+    """It is refused once it takes too many seconds or bytes."""
+    with scratch("a.elf", endless_elf.MAKERS[name]()) as path:
+        words = [sys.executable, "-c", READ_IN_BOUNDS, path]
+        done = subprocess.run(words, capture_output=True, text=True, timeout=LONG, check=False)
+    said = done.stdout.splitlines()
+    assert (done.stderr, said[-1]) == ("", "True")
+    late = {"reading it takes more than 1 seconds", "reading it takes more than 268,435,456 bytes"}
+    assert late & set(said[:-1]), said
+
+
+def test_bounds_are_gone_behind_the_block(tmp_path):
+    compiled(tmp_path, SOURCE)
+    before = resource.getrlimit(resource.RLIMIT_AS), signal.getsignal(signal.SIGPROF)
+    with elf_files.opened(f"{tmp_path}/a.elf"), elf_files.opened(f"{tmp_path}/a.elf"):
+        assert resource.getrlimit(resource.RLIMIT_AS) != before[0]
+    assert signal.getitimer(signal.ITIMER_PROF) == (0.0, 0.0)
+    assert (resource.getrlimit(resource.RLIMIT_AS), signal.getsignal(signal.SIGPROF)) == before

@@ -171,3 +171,28 @@ def test_a_case_of_many_rows(tmp_path):
     (tmp_path / "a.expect").write_text("never * 0 sent AA\n" * 20_000 + "* 0 sent BB\n")
     assert len(cases.read_case(f"{tmp_path}/a.expect").statements) == 20_001
     assert time.process_time() - begun < SECONDS
+
+
+MADE = "the system makes what is read there, and it is no file"
+
+
+@pytest.mark.parametrize("name", ["/proc/self/environ", "/proc/kmsg", "/proc/self/pagemap", "environ", "sub/environ"])
+def test_what_the_system_makes(place, name):
+    """Its files may have no end, have secrets, or be waited for, and are files by their kind."""
+    (place / "sub").mkdir()
+    for path in (place / "environ", place / "sub" / "environ"):
+        os.symlink("/proc/self/environ", path)
+    (place / "net.toml").write_text(f"cycles = 9\nnode = [{{ image = '{name}' }}]\n")
+    (place / "empty.toml").write_text("cycles = 9\nnode = [{ image = 'empty.hex' }]\n")
+    (place / "empty.hex").write_text(":00000001FF\n")
+    for source in (
+        f"trace {name}",
+        f"trace relay.trace\ngolden {name}",
+        f"run {name}",
+        f"node {name} 10",
+        f"run empty.toml\nelf {name}\nalways 0 head < 9",
+        "run net.toml",
+    ):
+        case = source + ("\n" if "golden" in source or "always" in source else "\n* 0 sent *\n")
+        status, out = expect(place, case, "--timeout", "60", "--avrora", "/bin/false")
+        assert status == 2 and (MADE in out or "Permission denied" in out), source

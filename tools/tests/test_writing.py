@@ -272,3 +272,10 @@ def test_nothing_is_held_open(place):
             Folder.named(path).close()
     assert len(os.listdir("/proc/self/fd")) == before
     assert writing.own_stream("/dev/stdout") == 1 and writing.own_stream("a") is None
+
+
+def test_a_name_as_long_as_one_may_be(tmp_path):
+    """In bytes, of which a character may have four."""
+    for name in ("n" * 255, "\U0001f600" * 63 + "abc", "\u00e4" * 127 + "a"):
+        writing.write_whole(f"{tmp_path}/{name}", "text")
+        assert (tmp_path / name).read_text() == "text"

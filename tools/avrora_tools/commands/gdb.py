@@ -72,7 +72,9 @@ def run(arguments: argparse.Namespace) -> int:
 
 def start_gdb(arguments: argparse.Namespace, simulator: str) -> NoReturn:
     """Becomes avr-gdb, which starts this tool again, at the other end of a pipe."""
-    gdb = shutil.which("avr-gdb")
+    # not that of the folder where one stands, which an empty part of PATH names
+    folders = (folder for folder in os.environ.get("PATH", os.defpath).split(os.pathsep) if os.path.isabs(folder))
+    gdb = shutil.which("avr-gdb", path=os.pathsep.join(folders))
     if gdb is None:
         raise CannotWork("avr-gdb is not installed (Debian's gdb-avr); with --port another gdb may connect")
     words = [*itself(), "gdb", "--avrora", simulator, "--node", str(arguments.node)]
