@@ -45,7 +45,7 @@ MOST_BYTES = {
     "docs/PROVING.md": 27000,
     "docs/DECISIONS.md": 22000,
     "docs/ARCHITECTURE.md": 13000,
-    "docs/CASES.md": 9500,
+    "docs/CASES.md": 11000,
 }
 
 # The documents whose commands are run.

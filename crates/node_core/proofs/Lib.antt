@@ -42,8 +42,8 @@ pub mod Sprints
 -- The turns of a sprint's loops: what holds between two instructions, what an instruction did, and how its cycles pass
 -- or end the sprint.
 pub mod Turns
--- A stride: what holds of it at the beginning of an instruction, and how a sprint and the processor's part of a cycle take
--- it on or end it.
+-- A stride: what holds of it at the beginning of an instruction, and how a sprint and the processor's part of a cycle
+-- take it on or end it.
 pub mod Striding
 -- What the test of two cores tells.
 pub mod Cores
