@@ -92,8 +92,7 @@ module _ {t at end c : ℕ} {inside : Bool} {old m x : Machine} (i : IsStriding 
           let count = more in
           let from = i.from in
           let later = q.from in
-          subst (λ (z : Machine). IsMidway (timed t old) (t + (c - t)) (shown z) z.rows.items × (vec_len z.rows + 3 ≤ vec_capacity z.rows) × (z.count ≤ LAST_CYCLE + t + (c - t) + 1)) (sym same)
-          (
+          subst (λ (z : Machine). IsMidway (timed t old) (t + (c - t)) (shown z) z.rows.items × (vec_len z.rows + 3 ≤ vec_capacity z.rows) × (z.count ≤ LAST_CYCLE + t + (c - t) + 1)) (sym same) (
             subst (λ (u : ℕ). IsMidway (timed t old) u (shown y) y.rows.items) place midway,
             omega (arith, few, long, wide, room, wider),
             omega (arith, count, from, later),

@@ -315,7 +315,6 @@ leapt {t} {r} {c} {first = first} {x = x} {z = z} h off now state q others lines
     (λ up. ap (λ (w : Lines). w.bits) lines ∙ ap (λ (w : Machine). (lines_of w.bus.io.board).bits) state
     ∙ h.clear (sym (ap (λ (y : Sreg). nat_lt y.bits 128) flags ∙ ap (λ (w : Machine). nat_lt w.cpu.sreg.bits 128) state) ∙ up))
 
-
 -- ---- whether the flag I was turned on, by a byte in which it is as it was before, and by that behind
 module _ (flags before after : ℕ) (a b : Bool) (same : nat_lt flags 128 ≡ nat_lt before 128) (was : a ≡ nat_le 128 flags) (is : b ≡ nat_le 128 after) where
   off_is : (n : ℕ) → nat_lt n 128 ≡ not (nat_le 128 n)
