@@ -22,18 +22,23 @@ class Facts:
 
     def __init__(self, folder: Path, draw: random.Random) -> None:
         self.folder, self.elf = folder, f"{folder}/moved.elf"
-        self.first = draw.choice([0, draw.randint(1_000, 100_000), draw.randint(270_000, 285_000)])
-        self.end = self.first + LENGTH
+        self.toml, self.trace = f"{folder}/rows.toml", f"{folder}/rows.trace"
+        self.run_from(draw.choice([0, draw.randint(1_000, 100_000), draw.randint(270_000, 285_000)]), draw)
+        if not self.traced:  # it stopped before that window
+            self.run_from(0, draw)
+        self.functions = self.sized()
+
+    def run_from(self, first: int, draw: random.Random) -> None:
+        """Its run with a window from a cycle on, and a byte that arrives there."""
+        self.first, self.end = first, first + LENGTH
         more = f"window = [{self.first}, {self.end}]"
         at = max(self.first, 4_000) + draw.randint(0, LENGTH // 2)
-        self.toml = str(scenario("moved.hex", folder / "rows.toml", at=at, cycles=LIMIT, hex_="414243", more=more))
+        scenario("moved.hex", Path(self.toml), at=at, cycles=LIMIT, hex_="414243", more=more)
         self.text = self.called("run", "--plain", "rows.toml")
-        self.trace = f"{folder}/rows.trace"
         Path(self.trace).write_text(self.text, encoding="ascii")
         found = re.findall(r"(?m)^(\d+) 0 (instr|enter|stop) ([0-9A-F]{4}) (.*)$", self.text)
         self.rows: list[Row] = [(int(c), kind, int(word, 16), rest) for c, kind, word, rest in found]
         self.traced = [row for row in self.rows if row[1] != "stop"]
-        self.functions = self.sized()
 
     def called(self, *words: str) -> str:
         done = subprocess.run([str(PROGRAM), *words], cwd=self.folder, capture_output=True, check=True)
