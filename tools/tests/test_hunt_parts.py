@@ -12,7 +12,7 @@ from avrora_tools.hunting.causes import Finding, Uneven, look_of, uneven
 from avrora_tools.hunting.changes import FOR_GOOD, Cut, Input, Latency, Left, Trial, record_of, trial_of, without_node
 from avrora_tools.hunting.corpus import Corpus, Known, Progress
 from avrora_tools.hunting.handing import Overwritten
-from avrora_tools.hunting.kinds import NAMES, Cuts, Facts, Inputs, kinds_of, left_of, take_up
+from avrora_tools.hunting.kinds import NAMES, Cuts, Facts, Inputs, Latencies, kinds_of, left_of, take_up
 from avrora_tools.hunting.oracles import DOUBLED, LOST, SILENT, STOPPED, WRONG, Failure, Oracle, Reference
 from avrora_tools.hunting.races import Races, sweep_command
 from avrora_tools.hunting.said import Burst, bursts_of, clashes_at, without_samples
@@ -104,6 +104,20 @@ def test_a_corpus_that_is_none_is_refused(tmp_path, text):
     (tmp_path / "hunt.json").write_text(text)
     with pytest.raises(BadInput, match="no corpus of a hunt|no trial of a hunt|of another version"):
         Corpus(str(tmp_path))
+
+
+@pytest.mark.parametrize(
+    "changed, longest",
+    [({"latency": 100}, 250), ({"latency": 100, "byte_time": 2_000}, 500), ({"latency": 900}, 900), ({}, 3_072)],
+)
+def test_no_latency_is_longer_than_a_field_has(changed, longest):
+    """A quarter of a byte time, or the scenario's longest; a scenario that gives none has 3,072."""
+    kind, random_ = Latencies(Facts({**DOCUMENT, **changed}, [], 50_000, False)), random.Random(1)
+    drawn = [change.cycles for _ in range(400) for change in kind.draw(random_).changes]
+    assert min(drawn) == 1 and 0.8 * longest < max(drawn) <= longest
+    links = [{"from": 0, "to": 1, "latency": 1_700}, {"from": 1, "to": 0}]
+    document = {**DOCUMENT, "latency": 100, "link": links}
+    assert Latencies(Facts(document, [], 50_000, False)).longest == 1_700
 
 
 def test_a_node_goes_and_those_behind_move_up():

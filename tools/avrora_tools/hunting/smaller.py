@@ -23,6 +23,7 @@ from avrora_tools.hunting.changes import (
 from avrora_tools.hunting.oracles import Failure, Oracle, Reference
 from avrora_tools.hunting.said import last_sends
 from avrora_tools.hunting.trials import Runner
+from avrora_tools.scenarios import DEFAULT_TIME
 
 Thing = TypeVar("Thing")
 
@@ -208,7 +209,7 @@ def fewer_changes(scene: Scene) -> Iterator[Scene]:
 
 def shorter_cuts(scene: Scene) -> Iterator[Scene]:
     """A cut that is cut in half, as long as it has more than some bytes."""
-    byte_time = int(scene.document.get("byte_time", 3_072))
+    byte_time = int(scene.document.get("byte_time", DEFAULT_TIME))
     for place, change in enumerate(scene.trial.changes):
         if not isinstance(change, Cut) or change.is_for_good() or change.end - change.first <= 4 * byte_time:
             continue
