@@ -4,10 +4,13 @@ import copy
 import dataclasses
 import json
 import random
+import re
+from types import SimpleNamespace
 
 import pytest
 
 from avrora_tools.errors import BadInput
+from avrora_tools.hunting import telling
 from avrora_tools.hunting.causes import Finding, Uneven, look_of, uneven
 from avrora_tools.hunting.changes import FOR_GOOD, Cut, Input, Latency, Left, Trial, record_of, trial_of, without_node
 from avrora_tools.hunting.corpus import Corpus, Known, Progress
@@ -525,6 +528,42 @@ def test_findings_of_one_cause():
     one = Finding(place.look, lost, lines=("a.c:3",))
     assert one.is_of(Finding(place.look, lost, lines=("a.c:3",)))
     assert not one.is_of(Finding(place.look, lost)) and not one.is_of(Finding((LOST, "a start"), lost, lines=("a.c:3",)))
+
+
+def test_small_findings_are_told_first_and_nothing_is_lost_between(tmp_path, monkeypatch, capsys):
+    """The scenarios have the numbers that are told; at each moment each finding has one."""
+    lost = Failure(LOST, 0, "node 0 did not write 'a'")
+    cut, more = Cut(1, 0, 400, 500), Cut(0, 1, 0, 50)
+    scenes = {
+        "large": Scene(DOCUMENT, 50_000, Trial("cuts", "large", (cut, more))),
+        "small": Scene(without_node(DOCUMENT, 2), 50_000, Trial("cuts", "small", (cut, more))),
+        "least": Scene(without_node(DOCUMENT, 2), 50_000, Trial("cuts", "least", (cut,))),
+    }
+    findings = [Finding((LOST,), lost, scene, scene.trial) for scene in scenes.values()]
+    race = Finding((LOST, "a race"), lost, places=("a.c:3",), opened="avrora-tools look")
+    corpus = Corpus(str(tmp_path))
+    for number, finding in enumerate(findings, 1):
+        telling.write_finding(corpus.found(number), finding, 1, "")
+    (tmp_path / "race-1.toml").touch()
+    there, write = [], telling.write_finding
+
+    def watched(*words):
+        write(*words)
+        there.append({re.search(r"cuts: (.*)\.$", it.read_text(), re.M)[1] for it in tmp_path.glob("found-?.toml")})
+
+    monkeypatch.setattr(telling, "write_finding", watched)
+    monkeypatch.setattr(telling, "not_covered", lambda hunt: [])
+    monkeypatch.setattr(telling, "print_tried", lambda hunt: None)
+    hunt = SimpleNamespace(findings=[*findings, race], seed=1, document=DOCUMENT)
+    telling.print_hunt(hunt, corpus, "it.toml", [])
+    assert all(it == set(scenes) for it in there)
+    names = sorted(path.name for path in tmp_path.iterdir())
+    both = [f"found-{number}{right}.toml" for number in (2, 3, 4) for right in ("-right", "")]
+    assert names == [*both, "race-1.toml"]
+    out = capsys.readouterr().out
+    order = [re.search(r"cuts: (.*)\.$", (tmp_path / f"found-{k}.toml").read_text(), re.M)[1] for k in (2, 3, 4)]
+    assert order == ["least", "small", "large"] and out.index("a.c:3") < out.index("2 nodes of 3")
+    assert out.index("found-2.toml") < out.index("found-3.toml") < out.index("found-4.toml")
 
 
 def test_lines_that_come_apart():
