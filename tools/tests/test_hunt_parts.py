@@ -19,7 +19,7 @@ from avrora_tools.hunting.kinds import NAMES, Cuts, Facts, Inputs, Latencies, ki
 from avrora_tools.hunting.oracles import DOUBLED, LOST, SILENT, STOPPED, WRONG, Failure, Oracle, Reference
 from avrora_tools.hunting.races import Races, sweep_command
 from avrora_tools.hunting.said import Burst, bursts_of, clashes_at, without_samples
-from avrora_tools.hunting.smaller import Scene, Smaller, earlier_ends, last_arrival
+from avrora_tools.hunting.smaller import Scene, Smaller, earlier_ends, key, last_arrival
 from avrora_tools.hunting.visits import Visit, stretches
 from avrora_tools.hunting.waiting import Failing, Waiting
 from avrora_tools.hunting.watching import breach_in, row_of
@@ -367,6 +367,53 @@ def test_a_scenario_becomes_no_other_failure():
     small, failure = smaller.smaller(scene, smaller.failure(scene))
     assert len(small.document["node"]) == 3 and failure.parts == {b"a", b"b"}
     assert small.trial.changes == (Cut(1, 0, 400, 500),)
+
+
+class Unanswered(FakeRunner):
+    """As FakeRunner, of node 2 of DOCUMENT or not; node 1 sends until it hears node 0, and node 0 writes what node 2
+    sends where it hears it."""
+
+    def outputs(self, documents):
+        for document, output in zip(documents, super().outputs(documents)):
+            links = [(it["from"], it["to"]) for it in document["link"]]
+            times = 1 if (0, 1) in links else 100
+            yield output + b"".join(rows(f"{600 + k} 1 sent AA") for k in range(times)) + serial(
+                b"b\n" if (2, 0) in links else b"", begin=2_000
+            )
+
+
+def test_a_small_scenario_has_what_the_protocol_needs():
+    """Without the link to node 1 that one sends without end, and without that of node 2 a line is lost: what fails there
+    fails for that."""
+    document = {**DOCUMENT, "link": [*DOCUMENT["link"], {"from": 2, "to": 0}, {"from": 0, "to": 2}]}
+    scene = Scene(document, 50_000, Trial("cuts", "", (Cut(1, 0, 400, 500),)))
+    smaller = Smaller(Unanswered(), lambda count: Oracle(range(count)), False, lambda: False)
+    links = [{"from": 0, "to": 1}, DOCUMENT["link"][1]]
+    for busy, kept in ((document["input"], [*links, {"from": 2, "to": 0}]), ([], links)):
+        it = dataclasses.replace(scene, document={**document, "input": busy})
+        if not busy:
+            it = dataclasses.replace(it, document={**it.document, "link": document["link"][:3]})
+        small, _ = smaller.stepped(it, smaller.failure(it), smaller.failure(it), smaller.fewer_links)
+        assert small.document["link"] == kept
+
+
+def test_nodes_that_are_left_have_their_numbers():
+    """What nodes send is compared with what the same ones sent before others went."""
+    scene = Scene(DOCUMENT, 50_000, TRIAL)
+    assert scene.without({0}) == (1, 2)
+    small = dataclasses.replace(scene, document=without_node(DOCUMENT, 0), numbers=scene.without({0}))
+    assert [small.number(node) for node in (0, 1)] == [1, 2] and small.without({0}) == (2,)
+    smaller = Smaller(FakeRunner(), lambda count: Oracle(range(count)), True, lambda: False)
+    most = int(1.5 * 100 + 32)
+    sent = b"".join(rows(f"{k} 1 sent AA") for k in range(100)) + rows("1 2 sent AA")
+    for node, count, works in ((0, most, True), (0, most + 1, False), (1, 33, True), (1, 34, False)):
+        output = b"".join(rows(f"{k} {node} sent AA") for k in range(count))
+        smaller.right = {key(scene): reference(sent), key(small): reference(output)}
+        assert smaller.works(small, scene) == works
+
+
+def reference(output):
+    return Reference(output, 50_000, 100_000)
 
 
 class Detour(FakeRunner):
