@@ -4,19 +4,22 @@ import copy
 import dataclasses
 import json
 import random
+import re
+from types import SimpleNamespace
 
 import pytest
 
 from avrora_tools.errors import BadInput
+from avrora_tools.hunting import telling
 from avrora_tools.hunting.causes import Finding, Uneven, look_of, uneven
 from avrora_tools.hunting.changes import FOR_GOOD, Cut, Input, Latency, Left, Trial, record_of, trial_of, without_node
 from avrora_tools.hunting.corpus import Corpus, Known, Progress
 from avrora_tools.hunting.handing import Overwritten
-from avrora_tools.hunting.kinds import NAMES, Cuts, Facts, Inputs, kinds_of, left_of, take_up
+from avrora_tools.hunting.kinds import NAMES, Cuts, Facts, Inputs, Latencies, kinds_of, left_of, take_up
 from avrora_tools.hunting.oracles import DOUBLED, LOST, SILENT, STOPPED, WRONG, Failure, Oracle, Reference
 from avrora_tools.hunting.races import Races, sweep_command
 from avrora_tools.hunting.said import Burst, bursts_of, clashes_at, without_samples
-from avrora_tools.hunting.smaller import Scene, Smaller, earlier_ends, last_arrival
+from avrora_tools.hunting.smaller import Scene, Smaller, earlier_ends, key, last_arrival
 from avrora_tools.hunting.visits import Visit, stretches
 from avrora_tools.hunting.waiting import Failing, Waiting
 from avrora_tools.hunting.watching import breach_in, row_of
@@ -104,6 +107,20 @@ def test_a_corpus_that_is_none_is_refused(tmp_path, text):
     (tmp_path / "hunt.json").write_text(text)
     with pytest.raises(BadInput, match="no corpus of a hunt|no trial of a hunt|of another version"):
         Corpus(str(tmp_path))
+
+
+@pytest.mark.parametrize(
+    "changed, longest",
+    [({"latency": 100}, 250), ({"latency": 100, "byte_time": 2_000}, 500), ({"latency": 900}, 900), ({}, 3_072)],
+)
+def test_no_latency_is_longer_than_a_field_has(changed, longest):
+    """A quarter of a byte time, or the scenario's longest; a scenario that gives none has 3,072."""
+    kind, random_ = Latencies(Facts({**DOCUMENT, **changed}, [], 50_000, False)), random.Random(1)
+    drawn = [change.cycles for _ in range(400) for change in kind.draw(random_).changes]
+    assert min(drawn) == 1 and 0.8 * longest < max(drawn) <= longest
+    links = [{"from": 0, "to": 1, "latency": 1_700}, {"from": 1, "to": 0}]
+    document = {**DOCUMENT, "latency": 100, "link": links}
+    assert Latencies(Facts(document, [], 50_000, False)).longest == 1_700
 
 
 def test_a_node_goes_and_those_behind_move_up():
@@ -352,6 +369,53 @@ def test_a_scenario_becomes_no_other_failure():
     assert small.trial.changes == (Cut(1, 0, 400, 500),)
 
 
+class Unanswered(FakeRunner):
+    """As FakeRunner, of node 2 of DOCUMENT or not; node 1 sends until it hears node 0, and node 0 writes what node 2
+    sends where it hears it."""
+
+    def outputs(self, documents):
+        for document, output in zip(documents, super().outputs(documents)):
+            links = [(it["from"], it["to"]) for it in document["link"]]
+            times = 1 if (0, 1) in links else 100
+            yield output + b"".join(rows(f"{600 + k} 1 sent AA") for k in range(times)) + serial(
+                b"b\n" if (2, 0) in links else b"", begin=2_000
+            )
+
+
+def test_a_small_scenario_has_what_the_protocol_needs():
+    """Without the link to node 1 that one sends without end, and without that of node 2 a line is lost: what fails there
+    fails for that."""
+    document = {**DOCUMENT, "link": [*DOCUMENT["link"], {"from": 2, "to": 0}, {"from": 0, "to": 2}]}
+    scene = Scene(document, 50_000, Trial("cuts", "", (Cut(1, 0, 400, 500),)))
+    smaller = Smaller(Unanswered(), lambda count: Oracle(range(count)), False, lambda: False)
+    links = [{"from": 0, "to": 1}, DOCUMENT["link"][1]]
+    for busy, kept in ((document["input"], [*links, {"from": 2, "to": 0}]), ([], links)):
+        it = dataclasses.replace(scene, document={**document, "input": busy})
+        if not busy:
+            it = dataclasses.replace(it, document={**it.document, "link": document["link"][:3]})
+        small, _ = smaller.stepped(it, smaller.failure(it), smaller.failure(it), smaller.fewer_links)
+        assert small.document["link"] == kept
+
+
+def test_nodes_that_are_left_have_their_numbers():
+    """What nodes send is compared with what the same ones sent before others went."""
+    scene = Scene(DOCUMENT, 50_000, TRIAL)
+    assert scene.without({0}) == (1, 2)
+    small = dataclasses.replace(scene, document=without_node(DOCUMENT, 0), numbers=scene.without({0}))
+    assert [small.number(node) for node in (0, 1)] == [1, 2] and small.without({0}) == (2,)
+    smaller = Smaller(FakeRunner(), lambda count: Oracle(range(count)), True, lambda: False)
+    most = int(1.5 * 100 + 32)
+    sent = b"".join(rows(f"{k} 1 sent AA") for k in range(100)) + rows("1 2 sent AA")
+    for node, count, works in ((0, most, True), (0, most + 1, False), (1, 33, True), (1, 34, False)):
+        output = b"".join(rows(f"{k} {node} sent AA") for k in range(count))
+        smaller.right = {key(scene): reference(sent), key(small): reference(output)}
+        assert smaller.works(small, scene) == works
+
+
+def reference(output):
+    return Reference(output, 50_000, 100_000)
+
+
 class Detour(FakeRunner):
     """As FakeRunner; where the link is cut, node 2 sends too."""
 
@@ -511,6 +575,42 @@ def test_findings_of_one_cause():
     one = Finding(place.look, lost, lines=("a.c:3",))
     assert one.is_of(Finding(place.look, lost, lines=("a.c:3",)))
     assert not one.is_of(Finding(place.look, lost)) and not one.is_of(Finding((LOST, "a start"), lost, lines=("a.c:3",)))
+
+
+def test_small_findings_are_told_first_and_nothing_is_lost_between(tmp_path, monkeypatch, capsys):
+    """The scenarios have the numbers that are told; at each moment each finding has one."""
+    lost = Failure(LOST, 0, "node 0 did not write 'a'")
+    cut, more = Cut(1, 0, 400, 500), Cut(0, 1, 0, 50)
+    scenes = {
+        "large": Scene(DOCUMENT, 50_000, Trial("cuts", "large", (cut, more))),
+        "small": Scene(without_node(DOCUMENT, 2), 50_000, Trial("cuts", "small", (cut, more))),
+        "least": Scene(without_node(DOCUMENT, 2), 50_000, Trial("cuts", "least", (cut,))),
+    }
+    findings = [Finding((LOST,), lost, scene, scene.trial) for scene in scenes.values()]
+    race = Finding((LOST, "a race"), lost, places=("a.c:3",), opened="avrora-tools look")
+    corpus = Corpus(str(tmp_path))
+    for number, finding in enumerate(findings, 1):
+        telling.write_finding(corpus.found(number), finding, 1, "")
+    (tmp_path / "race-1.toml").touch()
+    there, write = [], telling.write_finding
+
+    def watched(*words):
+        write(*words)
+        there.append({re.search(r"cuts: (.*)\.$", it.read_text(), re.M)[1] for it in tmp_path.glob("found-?.toml")})
+
+    monkeypatch.setattr(telling, "write_finding", watched)
+    monkeypatch.setattr(telling, "not_covered", lambda hunt: [])
+    monkeypatch.setattr(telling, "print_tried", lambda hunt: None)
+    hunt = SimpleNamespace(findings=[*findings, race], seed=1, document=DOCUMENT)
+    telling.print_hunt(hunt, corpus, "it.toml", [])
+    assert all(it == set(scenes) for it in there)
+    names = sorted(path.name for path in tmp_path.iterdir())
+    both = [f"found-{number}{right}.toml" for number in (2, 3, 4) for right in ("-right", "")]
+    assert names == [*both, "race-1.toml"]
+    out = capsys.readouterr().out
+    order = [re.search(r"cuts: (.*)\.$", (tmp_path / f"found-{k}.toml").read_text(), re.M)[1] for k in (2, 3, 4)]
+    assert order == ["least", "small", "large"] and out.index("a.c:3") < out.index("2 nodes of 3")
+    assert out.index("found-2.toml") < out.index("found-3.toml") < out.index("found-4.toml")
 
 
 def test_lines_that_come_apart():

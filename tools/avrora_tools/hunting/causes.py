@@ -43,8 +43,8 @@ class Finding:
     """A cause: how often it was met and by which kinds of trials, the smallest scenario, and what is wrong there.
 
     `lines` are run in the failing run and not in the right one, as FILE:LINE of the nodes' programs, and of `uneven`
-    lines one was run more often than the other there alone; `overwritten` was handed over twice there alone. Of a race `places` says where the arrival comes, `command`
-    sweeps it, and `opened` runs it."""
+    lines one was run more often than the other there alone; `overwritten` was handed over twice there alone. Of a race
+    `places` says where the arrival comes, `command` sweeps it, and `opened` runs it."""
 
     look: Look
     failure: Failure
@@ -74,6 +74,10 @@ class Finding:
         if self.handed() or other.handed():
             return self.failure.class_ == other.failure.class_ and self.handed() == other.handed()
         return self.look == other.look and self.apart() == other.apart()
+
+    def weight(self) -> tuple[int, ...]:
+        """By which findings are told: an arrival names its line, so those are first; then the smallest scenarios."""
+        return (0,) if self.places else (1, *self.scene.size()) if self.scene else (2,)
 
     @property
     def count(self) -> int:

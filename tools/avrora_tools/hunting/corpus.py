@@ -5,7 +5,7 @@ made of those that fail; a seal tells whose it is."""
 import json
 import os
 import re
-from collections.abc import Mapping, Sequence
+from collections.abc import Collection, Mapping, Sequence
 from dataclasses import dataclass, field
 from typing import Any
 
@@ -16,7 +16,8 @@ from avrora_tools.hunting.visits import Visit
 from avrora_tools.writing import Folder
 
 STATE = "hunt.json"
-FOUND = re.compile(r"(?:found-[0-9]+(?:-right)?\.toml|race-[0-9]+\.toml(?:\.state|\.moves)?)")
+SCENE = re.compile(r"(found-[0-9]+)(?:-right)?\.toml")
+RACE = re.compile(r"race-[0-9]+\.toml(?:\.state|\.moves)?")
 VERSION = 1
 MOST_TRIALS, MOST_ARRIVALS = 1_000, 100
 
@@ -143,5 +144,13 @@ class Corpus:
         fail."""
         with Folder.named(self.folder, make=True) as folder:
             for name in folder.names():
-                if FOUND.fullmatch(name):
+                if SCENE.fullmatch(name) or RACE.fullmatch(name):
+                    folder.remove(name)
+
+    def keep_found(self, paths: Collection[str]) -> None:
+        """Removes the scenarios of findings but these, and the right ones beside them."""
+        kept = {os.path.basename(path) for path in paths}
+        with Folder.named(self.folder, make=True) as folder:
+            for name in folder.names():
+                if (scene := SCENE.fullmatch(name)) and f"{scene[1]}.toml" not in kept:
                     folder.remove(name)

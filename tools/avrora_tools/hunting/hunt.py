@@ -18,6 +18,7 @@ from avrora_tools.hunting.said import bursts_of
 from avrora_tools.hunting.smaller import OracleOf, Scene, Smaller
 from avrora_tools.hunting.trials import Runner, processor_seconds
 from avrora_tools.hunting.waiting import Failing, Waiting
+from avrora_tools.scenarios import DEFAULT_TIME
 from avrora_tools.sweeping.limits import Limit
 
 LOOKING = 0.85  # the share of the time in which new trials are made; what failed is made small in the rest too
@@ -69,7 +70,7 @@ class Hunt:
         self.reference = Reference(output, until, int(document["cycles"]))
         self.oracle: Oracle = self.oracle_of(len(document["node"]))
         self.unmoved_failure = self.oracle.failure(self.reference, None, output)
-        self.facts = Facts(document, bursts_of(output, int(document.get("byte_time", 3_072))), until, self.has_check)
+        self.facts = Facts(document, bursts_of(output, int(document.get("byte_time", DEFAULT_TIME))), until, self.has_check)
         self.tried: Counter[str] = Counter()
         self.failed: Counter[str] = Counter()
         self.credit: Counter[str] = Counter()

@@ -21,12 +21,13 @@ from avrora_tools.hunting.changes import (
     inputs_of,
 )
 from avrora_tools.hunting.said import Burst
+from avrora_tools.scenarios import DEFAULT_TIME
 from avrora_tools.sweeping.events import EVERY
 
 MOST_CUTS = 3  # packets of one link in a row
 LONGEST_ABSENCE = 8  # the part of the time to the deadline for which a node is absent at most
 LEAST_ROOM = 10_000  # cycles within which starts are drawn at least
-LATENCIES = (1, 4_000)
+PART_OF_BYTE = 4  # a link's latency is at most this part of a byte time, unless the scenario has a longer one
 
 
 class Facts:
@@ -35,7 +36,7 @@ class Facts:
     def __init__(self, document: Document, bursts: Sequence[Burst], until: int, has_check: bool) -> None:
         self.document, self.bursts, self.until, self.has_check = document, bursts, until, has_check
         self.inputs = inputs_of(document)
-        self.byte_time = int(document.get("byte_time", 3_072))
+        self.byte_time = int(document.get("byte_time", DEFAULT_TIME))
         self.cycles = int(document["cycles"])
         self.hearers: dict[int, list[int]] = {}
         for link in document.get("link", []):
@@ -260,22 +261,31 @@ class Inputs:
         pass
 
 
+def longest_latency(document: Document) -> int:
+    """The longest that a scenario gives one of its links."""
+    usual = int(document.get("latency", DEFAULT_TIME))
+    return max((int(link.get("latency", usual)) for link in document.get("link", [])), default=usual)
+
+
 class Latencies:
-    """Links of other latencies."""
+    """Links of other latencies, none longer than a field has: light goes far within a part of a byte time, and what a
+    radio takes itself the scenario says."""
 
     name = "latencies"
     covers = "latencies of links"
 
     def __init__(self, facts: Facts) -> None:
         self.links = [ends_of(link) for link in facts.document.get("link", [])]
+        self.longest = max(longest_latency(facts.document), facts.byte_time // PART_OF_BYTE)
 
     def draw(self, random_: random.Random) -> Trial | None:
         if not self.links:
             return None
         if random_.random() < 0.5:
             one = random_.choice(self.links)
-            return Trial(self.name, "a link has another latency", (Latency(*one, log_uniform(random_, *LATENCIES)),))
-        changes = tuple(Latency(*link, log_uniform(random_, *LATENCIES)) for link in self.links)
+            latency = Latency(*one, log_uniform(random_, 1, self.longest))
+            return Trial(self.name, "a link has another latency", (latency,))
+        changes = tuple(Latency(*link, log_uniform(random_, 1, self.longest)) for link in self.links)
         return Trial(self.name, "all links have latencies of their own", changes)
 
     def passed(self, trial: Trial, bursts: Sequence[Burst]) -> None:

@@ -10,7 +10,7 @@ from collections.abc import Collection
 from dataclasses import dataclass
 
 from avrora_tools.hunting.changes import Trial
-from avrora_tools.hunting.said import clashes_at, last_sends, without_samples
+from avrora_tools.hunting.said import SENT, clashes_at, last_sends, without_samples
 from avrora_tools.hunting.watching import breach_in
 from avrora_tools.sweeping.always import Breach
 from avrora_tools.sweeping.rows import stops, written, written_before
@@ -60,6 +60,16 @@ class Reference:
     def texts_due(self) -> dict[int, bytes]:
         """And by the deadline."""
         return written_before((self.output,), self.until)
+
+    @functools.cached_property
+    def lines_due(self) -> dict[int, Counter[bytes]]:
+        """Its lines, or bytes."""
+        return {node: parts_of(text, True) for node, text in self.texts_due.items()}
+
+    @functools.cached_property
+    def sent(self) -> Counter[int]:
+        """How many bytes each node sends in all of the run."""
+        return Counter(int(node) for _, node, _ in SENT.findall(self.output))
 
     @functools.cached_property
     def stops(self) -> dict[int, str]:

@@ -1,9 +1,10 @@
 """Makes a failing scenario as small as it still fails in the same way: fewer changes, shorter cuts, fewer nodes, links
-and inputs, a shorter run. The scenario without the changes must be right each time, which shows that the rest works.
-What that run does not show stays as it is: nodes that send in the failing run alone, and the time of the changes."""
+and inputs, a shorter run. The scenario without the changes must be right each time, which shows that the rest works: no node
+sends much more there than before, as one does that nobody answers any more, and without a link nothing is lost. What that
+run does not show stays as it is: nodes that send in the failing run alone, and the time of the changes."""
 import dataclasses
 import itertools
-from collections.abc import Callable, Container, Iterator, Sequence
+from collections.abc import Callable, Collection, Container, Iterator, Sequence
 from typing import TypeVar
 
 from avrora_tools.hunting.changes import (
@@ -23,6 +24,7 @@ from avrora_tools.hunting.changes import (
 from avrora_tools.hunting.oracles import Failure, Oracle, Reference
 from avrora_tools.hunting.said import last_sends
 from avrora_tools.hunting.trials import Runner
+from avrora_tools.scenarios import DEFAULT_TIME
 
 Thing = TypeVar("Thing")
 
@@ -30,6 +32,8 @@ MOST_RUNS = 160  # for one scenario
 AT_A_TIME = 2  # scenes that are tried at a time, of one run or two each
 HALVINGS = 4  # of a cut, and of the run's length
 LEAST_CYCLES = 20_000
+PARTS = ("node", "input")  # of a scenario, beside its links
+MORE_SENT, PACKET = 1.5, 32  # a node of a smaller scenario sends at most so much more, and a packet
 
 
 @dataclasses.dataclass(frozen=True)
@@ -39,6 +43,7 @@ class Scene:
     document: Document
     until: int
     trial: Trial
+    numbers: tuple[int, ...] = ()  # of its nodes in the whole scenario, where some are gone
 
     def failing(self) -> Document:
         return self.trial.applied(self.document)
@@ -48,6 +53,15 @@ class Scene:
         links = self.document.get("link", [])
         nodes = {end for link in links for end in ends_of(link)} | {it.node for it in inputs_of(self.document)}
         return len(nodes), len(links), len(self.trial.changes), int(self.document["cycles"])
+
+
+    def number(self, node: int) -> int:
+        """That of a node in the whole scenario."""
+        return self.numbers[node] if self.numbers else node
+
+    def without(self, gone: Collection[int]) -> tuple[int, ...]:
+        """The numbers of the nodes that are left without some."""
+        return tuple(self.number(node) for node in range(len(self.document["node"])) if node not in gone)
 
 
 OracleOf = Callable[[int], Oracle]  # for a number of nodes
@@ -101,6 +115,8 @@ class Smaller:
     def smaller(self, scene: Scene, failure: Failure) -> tuple[Scene, Failure]:
         """The smallest that was found, and how it fails."""
         whole = failure
+        if key(scene) not in self.right:
+            self.failures([scene])
         answer_time = max(0, scene.until - last_arrival(scene.document))
 
         def shorter(scene: Scene) -> Iterator[Scene]:
@@ -132,10 +148,24 @@ class Smaller:
                 tried.update(map(identity, others))
                 failures = zip(others, self.failures(others))
                 alike = [(it, found) for it, found in failures if found and found.is_alike(whole)]
+                alike = [(it, found) for it, found in alike if self.works(it, scene)]
                 if alike:
                     (scene, failure), goes_on = alike[0], True
                     break
         return scene, failure
+
+    def works(self, scene: Scene, larger: Scene) -> bool:
+        """Whether a scene without its changes works as a larger one does: one that lacks what the protocol needs fails for
+        that, and not for what was found."""
+        now, before = self.right[key(scene)], self.right[key(larger)]
+        if now is None or before is None:
+            return False
+        sent = {larger.number(node): count for node, count in before.sent.items()}
+        if any(count > MORE_SENT * sent.get(scene.number(node), 0) + PACKET for node, count in now.sent.items()):
+            return False
+        is_less = len(scene.document.get("link", [])) < len(larger.document.get("link", []))
+        has_all = [scene.document[part] for part in PARTS] == [larger.document[part] for part in PARTS]
+        return not (is_less and has_all) or now.lines_due == before.lines_due
 
     def fewer_nodes(self, scene: Scene) -> Iterator[Scene]:
         needed = self.only_failing(scene)
@@ -148,7 +178,8 @@ class Smaller:
                 document = without_node(document, node)
                 changes = tuple(it for it in (change_without_node(it, node) for it in changes) if it is not None)
             if changes:
-                yield dataclasses.replace(scene, document=document, trial=scene.trial.with_changes(changes))
+                trial, numbers = scene.trial.with_changes(changes), scene.without(gone)
+                yield dataclasses.replace(scene, document=document, trial=trial, numbers=numbers)
 
     def fewer_links(self, scene: Scene) -> Iterator[Scene]:
         senders = self.only_failing(scene)
@@ -208,7 +239,7 @@ def fewer_changes(scene: Scene) -> Iterator[Scene]:
 
 def shorter_cuts(scene: Scene) -> Iterator[Scene]:
     """A cut that is cut in half, as long as it has more than some bytes."""
-    byte_time = int(scene.document.get("byte_time", 3_072))
+    byte_time = int(scene.document.get("byte_time", DEFAULT_TIME))
     for place, change in enumerate(scene.trial.changes):
         if not isinstance(change, Cut) or change.is_for_good() or change.end - change.first <= 4 * byte_time:
             continue

@@ -21,11 +21,15 @@ MOST_TEXTS, MOST_LINES, MOST_CHANGES = 3, 8, 6
 
 
 def print_hunt(hunt: Hunt, corpus: Corpus, scenario: str, check: Sequence[str]) -> None:
-    """All that a hunt tells at its end; the scenarios of its findings are written. `check` are the words by which a
-    sweep checks as the hunt does."""
+    """All that a hunt tells at its end, what is easiest to understand first; the scenarios of its findings are written
+    by the numbers that it tells. `check` are the words by which a sweep checks as the hunt does."""
     print_tried(hunt)
-    for number, finding in enumerate(hunt.findings, 1):
-        write_finding(corpus.found(number), finding, hunt.seed, os.path.dirname(scenario))
+    findings = sorted(hunt.findings, key=Finding.weight)
+    for behind in (len(findings), 0):  # each is always there by one number, also if this is killed
+        for number, finding in enumerate(findings, 1 + behind):
+            write_finding(corpus.found(number), finding, hunt.seed, os.path.dirname(scenario))
+    corpus.keep_found([corpus.found(number) for number, finding in enumerate(findings, 1) if finding.scene])
+    for number, finding in enumerate(findings, 1):
         print_finding(hunt, number, finding, scenario, check)
     print(f"not covered: {'; '.join(not_covered(hunt))}", flush=True)
 
