@@ -1,7 +1,7 @@
 """Makes a failing scenario as small as it still fails in the same way: fewer changes, shorter cuts, fewer nodes, links
-and inputs, a shorter run. The scenario without the changes must be right each time, which shows that the rest works: no node
-sends much more there than before, as one does that nobody answers any more, and without a link nothing is lost. What that
-run does not show stays as it is: nodes that send in the failing run alone, and the time of the changes."""
+and inputs, a shorter run. The scenario without the changes must be right each time, which shows that the rest works: no
+node sends much more there than before, as one does that nobody answers any more, and without a link nothing is lost.
+What that run does not show stays as it is: nodes that send in the failing run alone, and the time of the changes."""
 import dataclasses
 import itertools
 from collections.abc import Callable, Collection, Container, Iterator, Sequence
@@ -155,8 +155,8 @@ class Smaller:
         return scene, failure
 
     def works(self, scene: Scene, larger: Scene) -> bool:
-        """Whether a scene without its changes works as a larger one does: one that lacks what the protocol needs fails for
-        that, and not for what was found."""
+        """Whether a scene without its changes works as a larger one does: one that lacks what the protocol needs fails
+        for that, and not for what was found."""
         now, before = self.right[key(scene)], self.right[key(larger)]
         if now is None or before is None:
             return False
