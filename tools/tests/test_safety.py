@@ -77,6 +77,49 @@ def test_the_launcher_of_a_release(place, path):
     assert called(place, f"{home}/bin/avrora", "--version", PATH=path, PYTHONPATH=":") == (0, "avrora 1\n")
 
 
+LIBRARIES = [":", "/nowhere:", ":/nowhere", "/nowhere;", "../mine:/nowhere", "./"]
+TELLS = """#!/bin/sh
+echo "$LD_LIBRARY_PATH" >%s
+"""
+
+
+def teller(tmp_path):
+    """A program that tells where its libraries are looked for, and the file where it tells it."""
+    program, told = tmp_path / "teller", tmp_path / "told"
+    program.write_text(TELLS % told)
+    program.chmod(0o755)
+    return program, told
+
+
+@pytest.mark.parametrize("libraries", LIBRARIES)
+def test_libraries_of_a_simulator(place, tmp_path, libraries):
+    """It runs in the folder of its case, where no library of it is looked for: by the launcher and where it is
+    installed."""
+    program, told = teller(tmp_path)
+    (place / "it.expect").write_text("run relay.toml\nnever * * stop *\n")
+    (tmp_path / "here").mkdir()
+    environment = {"LD_LIBRARY_PATH": libraries, "AVRORA_PROGRAM": f"{program}", "PYTHON": sys.executable}
+    for words in ([f"{TOP}/avrora-tools"], [sys.executable, f"{TOP}/tools"]):
+        called(tmp_path / "here", *words, "expect", "../mine/it.expect", **environment)
+        assert told.read_text().strip() in ("", "/nowhere")
+        told.unlink()
+
+
+@pytest.mark.parametrize("libraries", LIBRARIES)
+def test_libraries_of_the_program_elsewhere(place, tmp_path, libraries):
+    """-C leads into the stranger's folder before the program starts."""
+    program, told = teller(tmp_path)
+    home = tmp_path / "release"
+    (home / "bin").mkdir(parents=True)
+    (home / "libexec" / "avrora").mkdir(parents=True)
+    shutil.copy(f"{TOP}/scripts/releases/avrora", home / "bin")
+    shutil.copy(f"{TOP}/scripts/launcher.sh", home / "libexec" / "avrora")
+    shutil.copy(program, home / "libexec" / "avrora" / "avrora_program")
+    (tmp_path / "here").mkdir()
+    called(tmp_path / "here", f"{home}/bin/avrora", "-C", "../mine", "run", "relay.toml", LD_LIBRARY_PATH=libraries)
+    assert told.read_text().strip() in ("", "/nowhere")
+
+
 @pytest.mark.parametrize("path", PATHS)
 def test_gdb(place, monkeypatch, path):
     """The tool starts the one of the system, or none."""
