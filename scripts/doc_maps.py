@@ -1,13 +1,20 @@
+#!/usr/bin/env python3
 """What scripts/check_docs.py checks of the maps in docs/ARCHITECTURE.md and docs/CASES.md, and of the indexes of lemmas, by the
 repository's files alone.
 
 Each check takes the repository and yields a line for whatever is wrong. A check that found nothing to look at is wrong too: its
 document or its list has changed so much that it checks nothing any more.
+
+    scripts/doc_maps.py NAME..    prints the lists that docs/ARCHITECTURE.md calls *all NAME*: a file a line, with what to do there
+
+Exit status: 0 they are printed, 2 there is no such list, and a line names those that there are.
 """
 import fnmatch
 import functools
 import re
+import sys
 import tomllib
+from pathlib import Path
 
 import lemmas
 
@@ -323,3 +330,32 @@ def wrong_maps(top, paths):
     if missing:
         return [f"{it}: it is not there" for it in missing]
     return [it for check in CHECKS for it in check(repo)]
+
+
+# A list for who makes the change.
+
+
+def lines_of(name, listed):
+    """A list of all places, a file a line; then those that a search finds too and no change touches."""
+    yield f"all {name}: {listed['change']}"
+    yield from (f"    {path}: {what}" for path, what in listed["places"].items())
+    if listed.get("others"):
+        yield "not to be changed:"
+        yield from (f"    {path}: {why}" for path, why in listed["others"].items())
+
+
+def main(names):
+    lists = tomllib.loads((Path(__file__).resolve().parent.parent / PLACES).read_text(encoding="utf-8"))
+    unknown = [it for it in names if it not in lists]
+    if unknown or not names:
+        print(f"doc_maps: {'there is no list ' + unknown[0] if unknown else 'name a list'}; there are {', '.join(sorted(lists))}", file=sys.stderr)
+        return 2
+    for name in names:
+        print("\n".join(lines_of(name, lists[name])))
+    return 0
+
+
+if __name__ == "__main__":
+    if sys.argv[1:2] in (["--help"], ["-h"]):
+        sys.exit(print(__doc__))
+    sys.exit(main(sys.argv[1:]))

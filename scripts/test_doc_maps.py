@@ -7,9 +7,12 @@ It also adds a file to each list of all places that names what the list is about
 
 Exit status: 0 all are told, 1 one is not.
 """
+import contextlib
+import io
 import sys
 import tomllib
 
+import doc_maps
 from check_docs import TOP, tracked
 from doc_maps import (
     ARCHITECTURE, ARGS, CASES, CHECKS, FORMATS, FORMS, MOST_OTHERS, PLACES, RUNNER, TOP_CALL, Repository, places_of,
@@ -33,7 +36,7 @@ FAULTS = (
     (ARCHITECTURE, "*all row*", "all its places", 'no row of the changes is "a row of the trace"'),
     (ARCHITECTURE, "`EPOCH` of `world_core/src/kept.rt`", "`EPOCHS` of `world_core/src/kept.rt`", "has no EPOCHS"),
     (ARCHITECTURE, "`serial_ports/specs/Radio` |", "`serial_ports/specs/Wireless` |", "there is no serial_ports/specs/Wireless"),
-    (ARCHITECTURE, "`board_io/specs/Table`, `Registers` |", "`board_io/specs/Table`, `Register` |", "board_io defines no Register"),
+    (ARCHITECTURE, "`board_io/specs/Table`, `Registers`; of a device", "`board_io/specs/Table`, `Register`; of a device", "board_io defines no Register"),
     (ARCHITECTURE, "`node_core/specs/Pace/Leaps`", "`node_core/specs/Pace/Leap`", "there is no node_core/specs/Pace/Leap"),
     (ARCHITECTURE, "`Pace/Midway` (`IsSprinted`)", "`Pace/Midway` (`IsSprint`)", "Pace/Midway has no IsSprint"),
     (ARCHITECTURE, "`defaults.rt` (`LATENCY`)", "`defaults.rt` (`LATENESS`)", "defaults.rt has no LATENESS"),
@@ -107,6 +110,21 @@ def untold(whole):
             yield f"not told: {path} with {line!r} by the list [{name}]"
 
 
+def not_printed(whole):
+    """What is wrong with how a list is printed: each of its files stands in it, and a list that is not there is refused."""
+    lists = tomllib.loads(whole.text(PLACES))
+    for name, listed in lists.items():
+        with contextlib.redirect_stdout(io.StringIO()) as out:
+            status = doc_maps.main([name])
+        lines = out.getvalue().splitlines()
+        missing = [it for it in [*listed["places"], *listed.get("others", {})] if not any(line.startswith(f"    {it}: ") for line in lines)]
+        if status or missing:
+            yield f"not printed: of the list [{name}] {missing}, status {status}"
+    with contextlib.redirect_stderr(io.StringIO()) as err:
+        if doc_maps.main(["gone"]) != 2 or "there is no list gone" not in err.getvalue():
+            yield "a list that is not there is not refused"
+
+
 def main():
     whole = Repository(TOP, tracked())
     wrong = [f"with no fault: {it}" for it in told(whole)]
@@ -120,6 +138,7 @@ def main():
     if not any("no case names it" in it for it in told(idle)):
         wrong.append("not told: a file that no case names")
     wrong += untold(whole)
+    wrong += not_printed(whole)
     for it in wrong:
         print(it)
     print(f"test_doc_maps: {len(FAULTS) + 1 + len(NEW_FILES)} faults, {len(wrong)} wrong")
