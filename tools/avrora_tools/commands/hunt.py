@@ -18,6 +18,7 @@ from avrora_tools.hunting.races import NAME as ARRIVALS
 from avrora_tools.hunting.races import Races
 from avrora_tools.hunting.said import LOOKED_AT
 from avrora_tools.hunting.smaller import OracleOf
+from avrora_tools.hunting.trails import Trails
 from avrora_tools.hunting.trials import Runner, Scenes, processor_seconds, scenes
 from avrora_tools.hunting.watching import Conditions, WatchingTails
 from avrora_tools.sweeping.cluster import ClusterTails
@@ -78,7 +79,7 @@ def run(arguments: argparse.Namespace) -> int:
             races = Races(simulator, document, until, known, sharings, arguments.jobs, limit, corpus.race, conditions)
         has_check = bool(arguments.expect or arguments.check or arguments.always)
         runner = Runner(tails, scenes_, oracle_of(len(scenario.images)).rows)
-        means = Means(runner, oracle_of, has_check, races, lines, handing, limit)
+        means = Means(runner, oracle_of, has_check, races, lines, handing, Trails(lines), limit)
         hunt = Hunt(means, document, until, arguments.seed, chosen)
         if hunt.unmoved_failure:
             raise BadInput(f"the scenario fails as it is, with nothing varied: {hunt.unmoved_failure.text}")

@@ -15,6 +15,7 @@ from avrora_tools.hunting.smaller import Scene
 from avrora_tools.programs import Program, Programs
 from avrora_tools.sweeping.simulation import ProcessTails
 
+LIBRARY = "/usr/lib/"  # where Debian's avr-libc has its headers
 MOST_UNEVEN = 3  # pairs of lines that are told
 
 Look = tuple[str, ...]  # what can be seen of a cause before a trial is small
@@ -38,13 +39,24 @@ class Uneven:
         )
 
 
+@dataclasses.dataclass(frozen=True)
+class Trail:
+    """Where something is, in words; the node at which it ends, the lines that run there then, and those that run in the
+    right run alone."""
+
+    way: str
+    node: int
+    lines: tuple[str, ...] = ()
+    missing: tuple[str, ...] = ()
+
+
 @dataclasses.dataclass
 class Finding:
     """A cause: how often it was met and by which kinds of trials, the smallest scenario, and what is wrong there.
 
     `lines` are run in the failing run and not in the right one, as FILE:LINE of the nodes' programs, and of `uneven`
     lines one was run more often than the other there alone; `overwritten` was handed over twice there alone. Of a race
-    `places` says where the arrival comes, `command` sweeps it, and `opened` runs it."""
+    `places` says where the arrival comes, `command` sweeps it, and `opened` runs it; of what is lost or doubled `trail` says where that ends."""
 
     look: Look
     failure: Failure
@@ -54,6 +66,7 @@ class Finding:
     lines: tuple[str, ...] = ()
     uneven: tuple[Uneven, ...] = ()
     overwritten: tuple[Overwritten, ...] = ()
+    trail: Trail | None = None
     kinds: Counter[str] = dataclasses.field(default_factory=Counter)
     texts: Counter[str] = dataclasses.field(default_factory=Counter)
     places: tuple[str, ...] = ()
@@ -122,20 +135,22 @@ class Lines:
             if program:
                 self.by_image[node["image"]] = program
 
-    def executed(self, document: Document) -> Counts:
-        """How often each node executes each line, as FILE:LINE: its first instruction of all that it executes."""
+    def executed(self, document: Document, span: tuple[int, int] | None = None) -> Counts:
+        """How often each node executes each line in a span, or in all of a run, as FILE:LINE: its first instruction of
+        all that it executes."""
         if not self.by_image:
             return {}
         path = self.tails.written({**document, "window": [0, 0]})
+        first, end = span or (0, document["cycles"])
         try:
-            output = self.tails.simulator.call("monitor", path, "0", str(document["cycles"]))
+            output = self.tails.simulator.call("monitor", path, str(first), str(end))
         except CannotWork as fault:  # a finding without lines is one all the same
             terminal.warn(f"which lines run is not known: {fault}")
             return {}
         found: Counts = {}
         for node, address, count in re.findall(rb"^(\d+) at ([0-9A-F]{4}) (\d+) ", output, re.MULTILINE):
             program = self.by_image.get(document["node"][int(node)]["image"])
-            line = program.line_at(int(address, 16)) if program else None
+            line = own_line(program, int(address, 16)) if program else None
             if line:
                 found.setdefault(line, {}).setdefault(int(node), int(count))
         return found
@@ -164,6 +179,12 @@ def uneven(failing: Counts, right: Counts) -> Iterator[Uneven]:
             if other:
                 yield Uneven(node, lines[0], of_lines[lines[0]], other, of_lines[other])
                 break
+
+
+def own_line(program: Program, address: int) -> str | None:
+    """The source line of an instruction, as FILE:LINE; none where it is the C library's."""
+    at = program.source_line_at(address)
+    return None if at is None or at.path.startswith(LIBRARY) else program.line_at(address)
 
 
 def line_key(line: str) -> tuple[str, int]:

@@ -6,7 +6,7 @@ from collections.abc import Iterator, Sequence
 from dataclasses import dataclass
 from typing import Protocol
 
-from avrora_tools.hunting.causes import Finding, Lines, look_of
+from avrora_tools.hunting.causes import Finding, Lines, Trail, look_of
 from avrora_tools.hunting.changes import Document, Trial
 from avrora_tools.hunting.corpus import Known, Progress
 from avrora_tools.hunting.handing import Handing
@@ -16,6 +16,7 @@ from avrora_tools.hunting.races import NAME as ARRIVALS
 from avrora_tools.hunting.races import Races
 from avrora_tools.hunting.said import bursts_of
 from avrora_tools.hunting.smaller import OracleOf, Scene, Smaller
+from avrora_tools.hunting.trails import Trails
 from avrora_tools.hunting.trials import Runner, processor_seconds
 from avrora_tools.hunting.waiting import Failing, Waiting
 from avrora_tools.scenarios import DEFAULT_TIME
@@ -55,6 +56,7 @@ class Means:
     races: Races | None
     lines: Lines
     handing: Handing
+    trails: Trails
     limit: Limit
 
 
@@ -64,6 +66,7 @@ class Hunt:
     def __init__(self, means: Means, document: Document, until: int, seed: int, chosen: set[str] | None = None) -> None:
         self.runner, self.oracle_of, self.has_check = means.runner, means.oracle_of, means.has_check
         self.races, self.lines, self.handing, self.limit = means.races, means.lines, means.handing, means.limit
+        self.trails = means.trails
         self.document, self.until, self.seed, self.chosen = document, until, seed, chosen
         self.begun = time.monotonic()
         output = self.runner.output(document)
@@ -199,10 +202,16 @@ class Hunt:
                 if found.scene and finding.scene and found.scene.size() < finding.scene.size():
                     finding.scene, finding.failure, finding.look = found.scene, found.failure, found.look
                     finding.lines, finding.uneven, finding.overwritten = found.lines, found.uneven, found.overwritten
+                    finding.trail = self.trail(found)
                     listener.found(number, finding)
                 return
         self.credit[kind] += 2
+        found.trail = self.trail(found)
         self.add(found, kind, found.failure.text, listener)
+
+    def trail(self, found: Finding) -> Trail | None:
+        """Where what is lost or doubled ends; who ends a hunt does not wait for it."""
+        return self.trails.of(found.scene, found.failure) if found.scene and not self.limit.is_over() else None
 
     def take_races(self, findings: Sequence[Finding], listener: Listener) -> None:
         """What a sweep found."""

@@ -1,10 +1,10 @@
 """What a hunt tells, and the scenarios that it writes."""
 import os
 import time
-from collections.abc import Iterable, Sequence
+from collections.abc import Iterable, Iterator, Sequence
 
 from avrora_tools import files
-from avrora_tools.hunting.causes import Finding
+from avrora_tools.hunting.causes import Finding, Trail
 from avrora_tools.hunting.changes import Cut, Document, Input
 from avrora_tools.hunting.corpus import Corpus
 from avrora_tools.hunting.hunt import Hunt
@@ -64,6 +64,8 @@ def print_finding(hunt: Hunt, number: int, finding: Finding, scenario: str, chec
         more = len(finding.lines) - MOST_LINES
         others = f" and {more} lines more" if more > 0 else ""
         print(f"   runs here alone: {joined(finding.lines[:MOST_LINES])}{others}")
+    if finding.trail:
+        print_trail(finding.trail)
     for it in finding.overwritten:
         print(f"   {it}")
     for pair in finding.uneven:
@@ -72,12 +74,28 @@ def print_finding(hunt: Hunt, number: int, finding: Finding, scenario: str, chec
         print(f"   {command}")
 
 
+def print_trail(trail: Trail) -> None:
+    print(f"   {trail.way}")
+    if trail.lines:
+        missing = f"; where all is right also {joined(trail.missing)}" if trail.missing else ""
+        print(f"   there node {trail.node} runs {joined(trail.lines)}{missing}")
+
+
 def joined(lines: Iterable[str]) -> str:
     by_file: dict[str, list[str]] = {}
     for line in lines:
         name, _, number = line.rpartition(":")
         by_file.setdefault(name, []).append(number)
-    return ", ".join(f"{name}:{','.join(numbers)}" for name, numbers in by_file.items())
+    return ", ".join(f"{name}:{','.join(ranges(numbers))}" for name, numbers in by_file.items())
+
+
+def ranges(numbers: Sequence[str]) -> Iterator[str]:
+    """Numbers in order, those that follow one another as one: `3-5`."""
+    begin = 0
+    for place in range(1, len(numbers) + 1):
+        if place == len(numbers) or int(numbers[place]) != int(numbers[place - 1]) + 1:
+            yield numbers[begin] if place - begin == 1 else f"{numbers[begin]}-{numbers[place - 1]}"
+            begin = place
 
 
 def print_scene(hunt: Hunt, scene: Scene) -> None:
