@@ -336,6 +336,13 @@ class WrittenLines:
         return [Report(lines, why)]
 
 
+def is_row(line: str, with_cycle: bool) -> bool:
+    """Whether a line of a golden trace is a row."""
+    parts = line.rstrip("\n").split(" ", 2 if with_cycle else 1)
+    is_number = all(part.isdigit() for part in parts[:-1])
+    return line.endswith("\n") and len(parts) == 2 + with_cycle and is_number and event_of(parts[-1]) is not None
+
+
 class GoldenTrace:
     """The rows of a file, all of them and no others."""
 
@@ -365,14 +372,7 @@ class GoldenTrace:
         if not line:
             return None
         self.number += 1
-        parts = line.rstrip("\n").split(" ", 2 if self.golden.with_cycles else 1)
-        is_number = all(part.isdigit() for part in parts[:-1])
-        if (
-            not line.endswith("\n")
-            or len(parts) != 2 + self.golden.with_cycles
-            or not is_number
-            or not event_of(parts[-1])
-        ):
+        if not is_row(line, self.golden.with_cycles):
             with files.untold(self.golden.path, self.folder):
                 raise BadInput(f"{self.name}, line {self.number}: no row: {files.printable(line[:60].rstrip())}")
         return line.rstrip("\n")
@@ -414,13 +414,27 @@ class SavedTrace:
 
     def __init__(self, golden: Golden, folder: str, stack: contextlib.ExitStack) -> None:
         self.golden = golden
-        above, name = os.path.split(os.path.relpath(golden.path, folder))
+        path = os.path.relpath(golden.path, folder)
+        above, name = os.path.split(path)
         try:
             with Folder.named(folder) as place:
                 inner = stack.enter_context(place.below(above))
+            self.refuse_other(path, inner.is_file(name))
             self.file: IO[str] = stack.enter_context(inner.file(name))
         except OSError as fault:
             raise CannotWork(f"cannot write {files.shown(golden.path)}: {fault.strerror}") from None
+
+    def refuse_other(self, path: str, is_there: bool) -> None:
+        """Raises BadInput where something else than a golden trace has the name: a case may be a stranger's, and name
+        the sources of a user, or what git keeps."""
+        name = files.shown(self.golden.path)
+        if any(part.startswith(".") for part in path.split(os.sep) if part != os.pardir):
+            raise BadInput(f"{name}: --save writes nothing that is hidden")
+        if is_there:
+            with files.opened_named(self.golden.path) as file:
+                line = file.readline(traces.LONGEST_ROW).decode("ascii", "replace")
+            if line and not is_row(line, True) and not is_row(line, False):
+                raise BadInput(f"{name}: this is no golden trace; --save writes over no other file")
 
     def feed(self, row: traces.TraceRow) -> None:
         cycle, node, event = row

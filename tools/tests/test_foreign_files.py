@@ -139,6 +139,27 @@ def test_golden_traces_are_saved_here(place, name):
     assert expect(place, f"trace relay.trace\ngolden {name}\n")[0] == 0
 
 
+@pytest.mark.parametrize("name", ["a.expect", "net.toml", "main.c", ".envrc", ".git/hooks/post-checkout", "sub/.git/x"])
+def test_golden_traces_are_saved_over_nothing_else(place, name):
+    for path in ("net.toml", "main.c", ".envrc"):
+        (place / path).write_text("mine\n")
+    for path in (".git/hooks", "sub/.git"):
+        (place / path).mkdir(parents=True)
+    text = f"trace relay.trace\ngolden {name}\n"
+    status, out = expect(place, text, "--save")
+    assert status == 2 and ("hidden" in out or "no golden trace" in out)
+    assert (place / "a.expect").read_text() == text
+    assert all((place / path).read_text() == "mine\n" for path in ("net.toml", "main.c", ".envrc"))
+    assert not os.listdir(place / ".git/hooks") and not os.listdir(place / "sub/.git")
+
+
+@pytest.mark.parametrize("former", ["", "1 0 sent 72\n", "0 sent 72\n"], ids=["empty", "rows", "without cycles"])
+def test_golden_traces_are_saved_over_a_former_one(place, former):
+    (place / "a.rows").write_text(former)
+    assert expect(place, "trace relay.trace\ngolden a.rows\n", "--save")[0] == 0
+    assert expect(place, "trace relay.trace\ngolden a.rows\n")[0] == 0
+
+
 MARKS = 100_000
 SECONDS = 60  # of a processor; where each mark is sought an end of again it takes many minutes
 
