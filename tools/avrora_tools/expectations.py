@@ -279,9 +279,9 @@ class Writes:
 
     SHOWN = 200  # bytes of what was written, for the report
 
-    def __init__(self, text: Text, name: str) -> None:
-        """`name` is what messages call the case."""
-        self.text, self.name = text, name
+    def __init__(self, text: Text, name: str, searches: expressions.Searches) -> None:
+        """`name` is what messages call the case, whose searches these are."""
+        self.text, self.name, self.searches = text, name, searches
         self.written = bytearray()
         self.found = False
 
@@ -306,7 +306,7 @@ class Writes:
 
     def matches(self, expression: bytes) -> bool:
         try:
-            return expressions.has(expression, self.written)
+            return self.searches.has(expression, self.written)
         except expressions.TooLong:
             raise CannotWork(f"{self.name}, line {self.text.line}: {expressions.TOO_LONG}") from None
 
@@ -551,6 +551,7 @@ def watchers_of(
     """What looks at each row, and what looks at what is written to USART0."""
     watchers: list[Watcher] = [Sequence(case, near, gaps)]
     writers: list[Watcher] = []
+    searches = expressions.Searches()
     for statement in case.statements:
         if isinstance(statement, Golden):
             if save:
@@ -562,7 +563,7 @@ def watchers_of(
         elif isinstance(statement, Never) and statement.span:
             watchers.append(NeverWithin(statement, statement.span, near))
         elif isinstance(statement, Text):
-            writers.append(Writes(statement, files.shown(case.path)))
+            writers.append(Writes(statement, files.shown(case.path), searches))
         elif isinstance(statement, Lines):
             writers.append(WrittenLines(statement))
     return watchers, writers

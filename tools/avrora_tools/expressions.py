@@ -4,6 +4,7 @@ import os
 import re
 import resource
 import signal
+import time
 from collections.abc import Iterable
 
 from avrora_tools import calling
@@ -11,7 +12,9 @@ from avrora_tools import calling
 SECONDS = 60  # that a search may take, unless its caller says otherwise
 MEMORY = 1 << 30  # bytes that it may take besides the text
 
-TOO_LONG = f"the search for the expression takes more than {SECONDS} seconds, or {MEMORY >> 30} GiB"
+TOO_LONG = (
+    f"the search for the expression takes more than {SECONDS} seconds, with those before it, or {MEMORY >> 30} GiB"
+)
 
 FOUND, MISSING, FAILED = range(3)  # statuses of the process
 
@@ -35,6 +38,23 @@ def has_each(expression: bytes, texts: Iterable[bytes | bytearray], seconds: flo
     if child.is_late or child.status not in (FOUND, MISSING):
         raise TooLong
     return child.status == FOUND
+
+
+class Searches:
+    """The searches of a case, of which there may be thousands: none begins once they took SECONDS together."""
+
+    def __init__(self) -> None:
+        self.spent = 0.0
+
+    def has(self, expression: bytes, text: bytes | bytearray) -> bool:
+        """What `has` tells. Raises TooLong where the searches before took all the time."""
+        if self.spent >= SECONDS:
+            raise TooLong
+        began = time.monotonic()
+        try:
+            return has(expression, text)
+        finally:
+            self.spent += time.monotonic() - began
 
 
 def searched(expression: bytes, texts: Iterable[bytes | bytearray], seconds: float) -> int:

@@ -76,6 +76,14 @@ class TestCases:
             status, out, _ = run_tool("expect", "--trace", trace_of_serial(case), case)
         assert status == 3 and "a.expect, line 1: the search for the expression takes more than" in out
 
+    def test_many_searches_that_each_end_in_time(self, monkeypatch):
+        """Together they may take no longer than one may."""
+        monkeypatch.setattr(expressions, "has", lambda *_: time.sleep(0.1))
+        monkeypatch.setattr(expressions, "SECONDS", 0.25)
+        with scratch("a.expect", "".join(f"text 4 matches 'a*{number}'\n" for number in range(50))) as case:
+            status, out, _ = run_tool("expect", "--jobs", "1", "--trace", trace_of_serial(case), case)
+        assert status == 3 and "a.expect, line 4: the search" in out, out
+
     def test_a_case_that_cannot_be_read_in_time(self, monkeypatch):
         monkeypatch.setattr(expressions.has, "__defaults__", (0.2,))
         with scratch("a.expect", f"text 4 matches '{'(|)' * 40}(?=c)'\n") as case:
