@@ -369,6 +369,28 @@ def test_a_scenario_becomes_no_other_failure():
     assert small.trial.changes == (Cut(1, 0, 400, 500),)
 
 
+class Late(FakeRunner):
+    """Node 0 writes `a` in cycle 90,000 where link 1 to 0 is cut in cycle 450, and never where 0 to 1 was cut too."""
+
+    def outputs(self, documents):
+        for document in documents:
+            opens = {(it["from"], it["to"]): it.get("open", [[0, FOR_GOOD]]) for it in document["link"]}
+            is_cut = not any(first <= 450 < end for first, end in opens.get((1, 0), [[0, FOR_GOOD]]))
+            at = 90_000 if is_cut else 100
+            is_written = at < document["cycles"] and not (is_cut and opens.get((0, 1), [[0]])[0][0] > 0)
+            yield b"%d 0 serial 61\n%d 0 serial 0A\n" % (at, at + 1) if is_written else rows("100 0 end 5 asleep")
+
+
+def test_what_is_late_in_a_shorter_run_is_not_lost():
+    smaller = Smaller(Late(), lambda count: Oracle(range(count)), False, lambda: False)
+    changes = (Cut(0, 1, 0, 50), Cut(1, 0, 400, 500))
+    scene = Scene({**DOCUMENT, "cycles": 100_000}, 50_000, Trial("cuts", "", changes))
+    small, failure = smaller.smaller(scene, smaller.failure(scene))
+    assert small.document["cycles"] < 80_000  # in 100,000 what one of the changes alone does is late
+    assert small.trial.changes == changes
+    assert smaller.failure(small.in_full()).is_alike(failure)
+
+
 class Unanswered(FakeRunner):
     """As FakeRunner, of node 2 of DOCUMENT or not; node 1 sends until it hears node 0, and node 0 writes what node 2
     sends where it hears it."""

@@ -44,6 +44,7 @@ class Scene:
     until: int
     trial: Trial
     numbers: tuple[int, ...] = ()  # of its nodes in the whole scenario, where some are gone
+    whole_cycles: int = 0  # of the whole scenario, where this run is shorter
 
     def failing(self) -> Document:
         return self.trial.applied(self.document)
@@ -54,6 +55,9 @@ class Scene:
         nodes = {end for link in links for end in ends_of(link)} | {it.node for it in inputs_of(self.document)}
         return len(nodes), len(links), len(self.trial.changes), int(self.document["cycles"])
 
+    def in_full(self) -> "Scene":
+        """This, with a run that goes on for as long as the whole scenario's."""
+        return dataclasses.replace(self, document={**self.document, "cycles": self.whole_cycles}, whole_cycles=0)
 
     def number(self, node: int) -> int:
         """That of a node in the whole scenario."""
@@ -149,10 +153,19 @@ class Smaller:
                 failures = zip(others, self.failures(others))
                 alike = [(it, found) for it, found in failures if found and found.is_alike(whole)]
                 alike = [(it, found) for it, found in alike if self.works(it, scene)]
-                if alike:
-                    (scene, failure), goes_on = alike[0], True
+                lasting = next((it for it in alike if self.goes_on(it[0], whole)), None)
+                if lasting:
+                    (scene, failure), goes_on = lasting, True
                     break
         return scene, failure
+
+    def goes_on(self, scene: Scene, whole: Failure) -> bool:
+        """Whether a scene still fails as the whole one did when its run goes on to the whole scenario's end. Else a step
+        after that which shortened the run made late what was lost."""
+        if not scene.whole_cycles:
+            return True
+        failure = self.failure(scene.in_full())
+        return failure is not None and failure.is_alike(whole)
 
     def works(self, scene: Scene, larger: Scene) -> bool:
         """Whether a scene without its changes works as a larger one does: one that lacks what the protocol needs fails
@@ -260,17 +273,19 @@ def fewer_bytes(scene: Scene) -> Iterator[Scene]:
 
 
 def earlier_ends(scene: Scene, answer_time: int) -> Iterator[Scene]:
-    """Runs that end earlier, with their deadline as far before their end. By the deadline all changes are over, so what
-    is only late does not become lost; and what they change has come, and been answered, in the right run."""
+    """Runs that end earlier, with their deadline as far before their end. By the deadline all changes are over; and what
+    they change has come, and been answered, in the right run."""
     changed = [it for it in scene.trial.changes if isinstance(it, Input)]
     over = [last_byte(it) for it in changed] + [it.end for it in scene.trial.cuts() if not it.is_for_good()]
     unmoved = [it for it in inputs_of(scene.document) if it.node in {change.node for change in changed}]
     least = max([LEAST_CYCLES, *over, *(last_byte(it) + answer_time for it in unmoved)])
-    behind = int(scene.document["cycles"]) - scene.until
+    cycles = int(scene.document["cycles"])
+    whole, behind = scene.whole_cycles or cycles, cycles - scene.until
     for share in itertools.islice((0.4, 0.6, 0.8, 0.9), HALVINGS):
         until = int(scene.until * share)
         if until > least:
-            yield dataclasses.replace(scene, document={**scene.document, "cycles": until + behind}, until=until)
+            document = {**scene.document, "cycles": until + behind}
+            yield dataclasses.replace(scene, document=document, until=until, whole_cycles=whole)
 
 
 def last_byte(it: Input) -> int:
