@@ -13,7 +13,7 @@ import pytest
 from avrora_tools.drawings import Drawing, Lane, Thinning, least_thinning, size_of
 from avrora_tools.reporting import pages, wave_pictures
 from avrora_tools.tracks import Look, Track
-from firmware import compiled, needs_compiler, needs_program as needs_simulator
+from firmware import PROGRAM, compiled, needs_compiler, needs_program as needs_simulator
 from support import SEED, needs_program, run_tool
 
 SCENARIO = """version = 3
@@ -28,6 +28,8 @@ BROWSER = 240  # seconds for chromium, which does not end on each machine
 @pytest.fixture(scope="module")
 def folder(tmp_path_factory):
     pytest.importorskip("elftools", reason="needs pyelftools (Debian's python3-pyelftools)")
+    if not PROGRAM:
+        pytest.skip("AVRORA_PROGRAM names no program")
     place = tmp_path_factory.mktemp("tracks")
     compiled("watched.c", place, "-Os")
     (place / "watched.toml").write_text(SCENARIO)
